@@ -1,0 +1,188 @@
+-- What follows from document 01's reading alone, in its own terms. docs/THEOREMS.md says which sentence each carries.
+use Prim.Native.Nat.{ℕ, zero, suc, _+_, _-_, _*_, _^_, _<_, _≤_}
+use mathlib.Core.Path.{_≡_, refl, sym, _∙_, ap, ap₂, subst}
+use mathlib.Core.Bool.{Bool, true, false, cond, not, _&&_}
+use mathlib.Core.List.{List, [], _∷_, _++_}
+use native.Mathlib.Nat.{zero-add, mul-suc, mul-le-mul-left, le-trans}
+use native.Mathlib.Omega.{arith}
+use lib.Dec.{ltb, lit<}
+use lib.ListN.{length, getD, replicate, set}
+use lib.Seq.{sets, getD-set-other, getD-set-same, set-out}
+use borrow.Author.Tests.{ltb-true, ltb-false, lt-ltb}
+use Rattle.layout.specs.Number.{Bytes}
+use Rattle.layout.specs.Layout.{Layout, Answer, finished, more, refused, Reading, reading, Entry, Table, input, output, item, run, hides}
+use Rattle.layout.specs.Transaction.{Head, Room, limit, transaction}
+use Rattle.layout.specs.Outcome.{Tables, Sizes, width, roomOf, zeros, change, lay, laid, Outcome, shown, outcome, readingOf, partial, finish, ended, atOnce, follow, strictly, strict, bears, Bearing}
+use Rattle.layout.proofs.Reading as reading-laws
+use Rattle.layout.proofs.Reading.{chain, rest, finished-not-more}
+use Rattle.layout.proofs.Sound.{Each, Fair, Inside, Kept, Done, Rows, rowsOf, counts, rows, endOf, transaction-kept}
+
+-- ---- demand 3's second half
+
+-- Two inputs of one length that agree at each bearing byte of the first.
+pub record Agree (z : Sizes) (xs ys : List ℕ) : Type 0 where
+  pub alike : length xs ≡ length ys
+  pub bearing : (i : ℕ) → Bearing z xs i → getD xs i 0 ≡ getD ys i 0
+
+bears-there : (n i : ℕ) (hidden : Bool) → i < n → hidden ≡ false → (ltb i n && not hidden) ≡ true
+bears-there n i hidden h e = rw (lt-ltb i n h, e)
+
+pub blind : (z : Sizes) (xs ys : List ℕ) → Agree z xs ys → readingOf z xs ≡ readingOf z ys
+blind z xs ys a =
+    reading-laws.blind (transaction (roomOf z)) xs ys (a .alike) λ i h e.
+    a .bearing i (bears-there (readingOf z xs .taken) i (hides (transaction (roomOf z)) xs i) h e)
+
+pub blind-partial : (z : Sizes) (xs ys : List ℕ) → Agree z xs ys → partial z xs ≡ partial z ys
+blind-partial z xs ys a = ap (outcome z) (blind z xs ys a)
+
+pub blind-at-once : (z : Sizes) (xs ys : List ℕ) → Agree z xs ys → atOnce z xs ≡ atOnce z ys
+blind-at-once z xs ys a = ap (λ r. outcome z (ended r)) (blind z xs ys a)
+
+pub blind-strict : (z : Sizes) (xs ys : List ℕ) → Agree z xs ys → strict z xs ≡ strict z ys
+blind-strict z xs ys a = ap₂ (λ r n. outcome z (strictly n (ended r))) (blind z xs ys a) (a .alike)
+
+-- ---- cutting
+
+pub cut : (z : Sizes) (xs ys : List ℕ) → readingOf z (xs ++ ys) ≡ chain (readingOf z xs) (run (rest (transaction (roomOf z)) xs) ys)
+cut z xs ys = reading-laws.cut (transaction (roomOf z)) xs ys
+
+pub stable : (z : Sizes) (xs ys : List ℕ) → (readingOf z xs .answer ≡ more → ⊥) → readingOf z (xs ++ ys) ≡ readingOf z xs
+stable z xs ys e = reading-laws.stable (transaction (roomOf z)) xs ys e
+
+pub prefix-free : (z : Sizes) (xs ys : List ℕ) (h : Head) → readingOf z xs .answer ≡ finished h → readingOf z (xs ++ ys) .taken ≡ length (xs ++ ys) → ys ≡ []
+prefix-free z xs ys h e whole = reading-laws.prefix-free (transaction (roomOf z)) xs ys h e whole
+
+pub takes-all : (z : Sizes) (xs : List ℕ) → readingOf z xs .answer ≡ more → readingOf z xs .taken ≡ length xs
+takes-all z xs e = reading-laws.takes-all (transaction (roomOf z)) xs e
+
+pub one-byte-more : (z : Sizes) (xs : List ℕ) → readingOf z xs .answer ≡ more → atOnce z xs .answer ≡ refused 1 (length xs)
+one-byte-more z xs e = ap (λ a. finish a (readingOf z xs .taken)) e ∙ ap (λ n. refused 1 n) (takes-all z xs e)
+
+-- ---- what every reading keeps
+
+room-small : (z : Sizes) → roomOf z .items < 2 ^ 32
+room-small z = omega arith
+
+keeps : (z : Sizes) (xs : List ℕ) → Bytes xs → Kept 0 (rows 0 0 0) 0 (readingOf z xs)
+keeps z xs h = transaction-kept (roomOf z) (room-small z) xs h
+
+pub taken-limit : (z : Sizes) (xs : List ℕ) → Bytes xs → readingOf z xs .taken ≤ limit
+taken-limit z xs h = omega (arith, keeps z xs h .limited)
+
+-- every entry stays in its record, and its numbers are below 2^32
+pub entries-fair : (z : Sizes) (xs : List ℕ) → Bytes xs → Each Fair (readingOf z xs .log)
+entries-fair z xs h = keeps z xs h .fair
+
+each-both : {X : Type 0} {P Q R : X → Type 0} → ((x : X) → P x → Q x → R x) → (l : List X) → Each P l → Each Q l → Each R l
+each-both f [] u v = tt
+each-both f (x ∷ l) u v = (f x (u .0) (v .0), each-both f l (u .1) (v .1))
+
+each-map : {X : Type 0} {P Q : X → Type 0} → ((x : X) → P x → Q x) → (l : List X) → Each P l → Each Q l
+each-map f [] u = tt
+each-map f (x ∷ l) u = (f x (u .0), each-map f l (u .1))
+
+module _ (z : Sizes) (xs : List ℕ) (bytes : Bytes xs) (h : Head) (e : readingOf z xs .answer ≡ finished h) where
+  finished-done : Done 0 (rows 0 0 0) (readingOf z xs .taken) h (readingOf z xs .log)
+  finished-done = subst (λ n. Done 0 (rows 0 0 0) n h (readingOf z xs .log)) (zero-add (readingOf z xs .taken)) (keeps z xs bytes .done h e)
+
+  pub inside : Each (λ en. en .row < rowsOf (en .table) (counts h)) (readingOf z xs .log)
+  inside = each-map (λ en i. i .row) (readingOf z xs .log) (finished-done .inside)
+
+  pub within-bytes : Each (λ en. endOf en ≤ readingOf z xs .taken) (readingOf z xs .log)
+  within-bytes = each-map (λ en i. i .ends) (readingOf z xs .log) (finished-done .inside)
+
+  pub head-bytes : h .bytes ≡ readingOf z xs .taken
+  head-bytes = finished-done .bytes
+
+-- ---- the same of the tables
+
+abbrev pub tableOf : Table → Tables → List ℕ
+tableOf input t = t .inputs
+tableOf output t = t .outputs
+tableOf item t = t .items
+
+-- what holds of each table, and of one that is changed, holds of each afterwards
+change-keeps : (P : Table → List ℕ → Type 0) (u : Table) (f : List ℕ → List ℕ) (ts : Tables) → ((t : Table) → P t (tableOf t ts)) → P u (f (tableOf u ts)) → (t : Table) → P t (tableOf t (change u f ts))
+change-keeps P input f ts q p input = p
+change-keeps P input f ts q p output = q output
+change-keeps P input f ts q p item = q item
+change-keeps P output f ts q p input = q input
+change-keeps P output f ts q p output = p
+change-keeps P output f ts q p item = q item
+change-keeps P item f ts q p input = q input
+change-keeps P item f ts q p output = q output
+change-keeps P item f ts q p item = p
+
+abbrev Stores : (Table → List ℕ → Type 0) → Entry → Type 0
+Stores P e = (xs : List ℕ) → P (e .table) xs → P (e .table) (sets xs (width (e .table) * e .row + e .column) (e .numbers))
+
+laid-keeps : (P : Table → List ℕ → Type 0) (log : List Entry) → Each (Stores P) log → (ts : Tables) → ((t : Table) → P t (tableOf t ts)) → (t : Table) → P t (tableOf t (laid log ts))
+unfolding laid
+laid-keeps P [] s ts q = q
+laid-keeps P (e ∷ es) s ts q = laid-keeps P es (s .1) (lay e ts) (change-keeps P (e .table) _ ts q (s .0 (tableOf (e .table) ts) (q (e .table))))
+
+getD-sets-behind : (vs xs : List ℕ) (i j : ℕ) → i + length vs ≤ j → getD (sets xs i vs) j 0 ≡ getD xs j 0
+getD-sets-behind [] xs i j h = refl
+getD-sets-behind (v ∷ vs) xs i j h = getD-sets-behind vs (set xs i v) (suc i) j (omega arith) ∙ getD-set-other xs i j v 0 (λ e. omega arith)
+
+zeros-behind : (n j : ℕ) → _≡_ {A = ℕ} (getD (replicate n 0) j 0) 0
+zeros-behind zero j = refl
+zeros-behind (suc n) zero = refl
+zeros-behind (suc n) (suc j) = zeros-behind n j
+
+zeros-at : (z : Sizes) (t : Table) (j : ℕ) → getD (tableOf t (zeros z)) j 0 ≡ 0
+zeros-at z input j = zeros-behind (z .inputs) j
+zeros-at z output j = zeros-behind (z .outputs) j
+zeros-at z item j = zeros-behind (z .items) j
+
+shown-keeps : (P : Tables → Type 0) (a : Answer Head) (t z : Tables) → P t → P z → P (shown a t z)
+shown-keeps P (finished h) t z p q = p
+shown-keeps P more t z p q = p
+shown-keeps P (refused n p′) t z p q = q
+
+-- an entry ends with its record, so it touches nothing behind the count
+row-ends : (w i c n m : ℕ) → c + n ≤ w → i < m → w * i + c + n ≤ w * m
+row-ends w i c n m fits less = omega (arith, mul-suc w i, mul-le-mul-left w less)
+
+-- 0 stands behind the last record of a finished reading, surplus numbers included
+pub zero-behind : (z : Sizes) (xs : List ℕ) → Bytes xs → (h : Head) → readingOf z xs .answer ≡ finished h → (t : Table) (j : ℕ) → width t * rowsOf t (counts h) ≤ j → getD (tableOf t (partial z xs .tables)) j 0 ≡ 0
+zero-behind z xs bytes h e =
+    shown-keeps (λ ts. (t : Table) → Behind t (tableOf t ts)) (readingOf z xs .answer) _ (zeros z)
+    (laid-keeps Behind (readingOf z xs .log) stores (zeros z) (λ t j _. zeros-at z t j))
+    (λ t j _. zeros-at z t j)
+  where
+    Behind : Table → List ℕ → Type 0
+    Behind t ns = (j : ℕ) → width t * rowsOf t (counts h) ≤ j → getD ns j 0 ≡ 0
+
+    stores : Each (Stores Behind) (readingOf z xs .log)
+    stores =
+        each-both
+        (λ en fair row ns q j less. getD-sets-behind (en .numbers) ns (width (en .table) * en .row + en .column) j (le-trans (row-ends (width (en .table)) (en .row) (en .column) (length (en .numbers)) (rowsOf (en .table) (counts h)) (fair .fits) row) less) ∙ q j less)
+        (readingOf z xs .log) (entries-fair z xs bytes) (inside z xs bytes h e)
+
+abbrev Small : List ℕ → Type 0
+Small ns = (j : ℕ) → getD ns j 0 < 2 ^ 32
+
+set-small : (ns : List ℕ) (i v : ℕ) → v < 2 ^ 32 → Small ns → Small (set ns i v)
+set-small [] i v h s j = s j
+set-small (n ∷ ns) zero v h s zero = h
+set-small (n ∷ ns) zero v h s (suc j) = s (suc j)
+set-small (n ∷ ns) (suc i) v h s zero = s zero
+set-small (n ∷ ns) (suc i) v h s (suc j) = set-small ns i v h (λ k. s (suc k)) j
+
+sets-small : (vs ns : List ℕ) (i : ℕ) → Each (λ v. v < 2 ^ 32) vs → Small ns → Small (sets ns i vs)
+sets-small [] ns i h s = s
+sets-small (v ∷ vs) ns i h s = sets-small vs (set ns i v) (suc i) (h .1) (set-small ns i v (h .0) s)
+
+-- every number of every table is below 2^32, whatever was read
+pub numbers-small : (z : Sizes) (xs : List ℕ) → Bytes xs → (t : Table) (j : ℕ) → getD (tableOf t (partial z xs .tables)) j 0 < 2 ^ 32
+numbers-small z xs bytes =
+    shown-keeps (λ ts. (t : Table) → Small (tableOf t ts)) (readingOf z xs .answer) _ (zeros z)
+    (laid-keeps (λ _. Small) (readingOf z xs .log) stores (zeros z) zero-small)
+    zero-small
+  where
+    zero-small : (t : Table) → Small (tableOf t (zeros z))
+    zero-small t j = omega (arith, zeros-at z t j)
+
+    stores : Each (Stores (λ _. Small)) (readingOf z xs .log)
+    stores = each-map (λ en fair ns. sets-small (en .numbers) ns _ (fair .small)) (readingOf z xs .log) (entries-fair z xs bytes)

@@ -1,0 +1,9 @@
+-- Document 01 as definitions, in its words and order. What a reader must believe stands here and nowhere else.
+--     Number        numbers in bytes
+--     Layout        what a layout is, and its reading
+--     Transaction   the layout: every field, every refusal of a reading, every number that enters a table
+--     Outcome       what the caller sees: answer, bytes taken, tables; finishing, reading at once, the strict form; bearing bytes
+pub mod Number
+pub mod Layout
+pub mod Transaction
+pub mod Outcome
