@@ -5,7 +5,7 @@ use mathlib.Core.List.{List, [], _∷_, _++_, map}
 use lib.ListN.{length, replicate, take}
 use Rattle.layout.specs.Number.{value}
 use Rattle.layout.specs.Layout.{Layout, Reading, Answer, finished, more, refused, Entry, Table, input, output, item, accept, run, reading}
-use Rattle.layout.specs.Transaction.{Head, Room, within, numberAt, opaqueAt, furtherAt, compactAt, countAt, bodyAt, valueAt, tokenAt, each, plain, bit, vout, flags, issuanceAt, inputAt, outputAt, itemAt, stackAt, inputWitnessAt, outputWitnessAt, transaction}
+use Rattle.layout.specs.Transaction.{Head, Room, within, numberAt, opaqueAt, compactAt, countAt, bodyAt, valueAt, tokenAt, each, plain, bit, vout, flags, issuanceAt, inputAt, outputAt, itemAt, stackAt, inputWitnessAt, outputWitnessAt, transaction}
 use Rattle.layout.specs.Outcome.{Sizes, Outcome, Tables, laid, partial, atOnce, strict}
 
 sizes : ℕ → ℕ → ℕ → Sizes
@@ -22,5 +22,5 @@ t256 : List ℕ
 t256 = 2 ∷ 0 ∷ 0 ∷ 0 ∷ 0 ∷ 0xfd ∷ 0 ∷ 1 ∷ inputs256 256 ++ (0 ∷ 0 ∷ 0 ∷ 0 ∷ 0 ∷ [])
 
 p : (atOnce (sizes 5120 0 0) t256) .taken ≡ 10509
-unfolding sizes inputs256 t256 value run within numberAt opaqueAt furtherAt compactAt countAt bodyAt valueAt tokenAt each plain bit vout flags issuanceAt inputAt outputAt itemAt stackAt inputWitnessAt outputWitnessAt transaction laid
+unfolding sizes inputs256 t256 value run within numberAt opaqueAt compactAt countAt bodyAt valueAt tokenAt each plain bit vout flags issuanceAt inputAt outputAt itemAt stackAt inputWitnessAt outputWitnessAt transaction laid
 p = refl

@@ -9,7 +9,7 @@ use lib.ListN.{length, getD, take, drop}
 use borrow.Author.Tests.{leb-true, leb-false, eqb-true, eqb-false}
 use Rattle.layout.specs.Number.{Order, little, big, value, Bytes}
 use Rattle.layout.specs.Layout.{Layout, number, opaque, enter, refuse, accept, Answer, finished, more, refused, Reading, reading, behind, noted, Entry, Table, input, output, item, Hidden, txid, blindingNonce, entropy, assetPart, noncePart, commitmentPart, scriptBody, proofBody, itemBody, run}
-use Rattle.layout.specs.Transaction.{Head, Room, limit, entry, within, numberAt, opaqueAt, furtherAt, compactAt, countAt, bodyAt, valueAt, tokenAt, each, plain, bit, vout, flags, Seen, seen, issuanceAt, inputAt, outputAt, itemAt, stackAt, inputWitnessAt, outputWitnessAt, transaction}
+use Rattle.layout.specs.Transaction.{Head, Room, limit, entry, within, numberAt, opaqueAt, announced, least, compactAt, countAt, bodyAt, valueAt, tokenAt, each, alone, plain, bit, vout, flags, Seen, seen, issuanceAt, inputAt, outputAt, itemAt, stackAt, inputWitnessAt, outputWitnessAt, transaction}
 use Rattle.layout.specs.Outcome.{width}
 use native.Mathlib.Nat.{add-assoc, add-zero}
 use Rattle.layout.proofs.Reading.{by-cases, fieldRun, field-case, finished-not-more}
@@ -20,12 +20,12 @@ Each P [] = Unit {0}
 Each P (x ∷ xs) = P x × Each P xs
 
 -- Where that which an entry names ends: a txid, a body, an issuance's blinding nonce and entropy, a prefix and what it announces.
-abbrev pub announced : ℕ → ℕ
-announced p = cond (eqb p 0) 1 (cond (eqb p 1) 9 33)
+abbrev pub promised : ℕ → ℕ
+promised p = cond (eqb p 0) 1 (cond (eqb p 1) 9 33)
 
 abbrev pub ends : Table → ℕ → ℕ → ℕ → ℕ
 ends input c a b = cond (eqb c 0) (a + 32) (cond (eqb c 3 || eqb c 13 || eqb c 15) (a + b) (cond (eqb c 6) (a + 64) 0))
-ends output c a b = cond (eqb c 0 || eqb c 6) (b + cond (eqb a 0) 1 33) (cond (eqb c 2) (b + announced a) (cond (eqb c 8 || eqb c 10 || eqb c 12) (a + b) 0))
+ends output c a b = cond (eqb c 0 || eqb c 6) (b + cond (eqb a 0) 1 33) (cond (eqb c 2) (b + promised a) (cond (eqb c 8 || eqb c 10 || eqb c 12) (a + b) 0))
 ends item c a b = a + b
 
 abbrev pub endOf : Entry → ℕ
@@ -93,20 +93,13 @@ abbrev Follows : ℕ → Rows → ℕ → (ℕ → ℕ → Layout Head) → Type
 Follows b r at k = (n at′ : ℕ) → at < at′ → at′ ≤ limit → Sound b r at′ (k n at′)
 
 module _ {b : ℕ} {r : Rows} where
-  further-sound : (start at w least : ℕ) (k : ℕ → ℕ → Layout Head) → start < at → Follows b r start k → Sound b r at (furtherAt start at w least k)
-  unfolding furtherAt
-  further-sound start at w least k s f =
-      number-sound start at little w _ λ n _ h.
-      cond-sound (leb least n) (λ _. f n (at + w) (omega arith) h) (λ _. stop)
-
   compact-sound : (at : ℕ) (k : ℕ → ℕ → Layout Head) → Follows b r at k → Sound b r at (compactAt at k)
   unfolding compactAt
   compact-sound at k f =
-      number-sound at at little 1 _ λ n _ h.
-      cond-sound (leb n 252) (λ _. f n (at + 1) (omega arith) h) λ _.
-      cond-sound (eqb n 253) (λ _. further-sound at (at + 1) 2 253 k (omega arith) f) λ _.
-      cond-sound (eqb n 254) (λ _. further-sound at (at + 1) 4 65536 k (omega arith) f) λ _.
-      further-sound at (at + 1) 8 4294967296 k (omega arith) f
+      number-sound at at little 1 _ λ first _ h.
+      cond-sound (leb first 252) (λ _. f first (at + 1) (omega arith) h) λ _.
+      number-sound at (at + 1) little (announced first) _ λ n _ h′.
+      cond-sound (leb (least (announced first)) n) (λ _. f n (at + 1 + announced first) (omega arith) h′) (λ _. stop)
 
   count-sound : (at left : ℕ) (k : ℕ → ℕ → Layout Head) → ((n at′ : ℕ) → n ≤ left → at < at′ → at′ ≤ limit → Sound b r at′ (k n at′)) → Sound b r at (countAt at left k)
   unfolding countAt
@@ -141,11 +134,11 @@ module _ {r : Rows} where
   reach {at = at} h s = grow at r h (itself r) s
 
   -- a prefix, entered alone or with its position
-  value-sound : (at : ℕ) (note amount : ℕ → ℕ → Entry) (k : ℕ → ℕ → Layout Head) → Pair r (λ p at. at + announced p) note → Pair r (λ _ _. 0) amount → ((p : ℕ) → Goes r at (k p)) → Sound at r at (valueAt at note amount k)
+  value-sound : (at : ℕ) (note amount : ℕ → ℕ → Entry) (k : ℕ → ℕ → Layout Head) → Pair r (λ p at. at + promised p) note → Pair r (λ _ _. 0) amount → ((p : ℕ) → Goes r at (k p)) → Sound at r at (valueAt at note amount k)
   unfolding valueAt
   value-sound at note amount k q q′ f =
       number-sound at at little 1 _ λ p small e.
-      noting (at + announced p) (q .fair p at (omega arith) (omega arith)) (q .ends p at) (omega arith) (q .row p at)
+      noting (at + promised p) (q .fair p at (omega arith) (omega arith)) (q .ends p at) (omega arith) (q .row p at)
       (cond-sound (eqb p 0) (λ t. reach (rw t (omega arith)) (f p (at + 1) (omega arith) e)) λ t₀.
       cond-sound (eqb p 1)
       (λ t. number-sound (at + 1) (at + 1) big 8 _ λ v v-small e′.
@@ -206,9 +199,9 @@ module _ {r : Rows} where
       λ keys at₄ a₄ e₄.
       cond-sound (eqb amount 0 && eqb keys 0) (λ _. stop) (λ _. f at₄ (omega arith) e₄)))
 
-  input-sound : (i : ℕ) (s : Unit {0}) (at : ℕ) (k : Unit {0} → ℕ → Layout Head) → i < r .ins → Goes r at (k tt) → Sound at r at (inputAt i s at k)
+  input-sound : (i at : ℕ) (k : ℕ → Layout Head) → i < r .ins → Goes r at k → Sound at r at (inputAt i at k)
   unfolding inputAt
-  input-sound i s at k row f =
+  input-sound i at k row f =
       opaque-sound at at txid 32 _ λ e₁.
       enter-sound input i 0 (at ∷ []) (at + 32) (omega arith) (omega arith, tt) (omega arith) (omega arith) row
       (number-sound (at + 32) (at + 32) little 4 _ λ raw small e₂.
@@ -217,12 +210,12 @@ module _ {r : Rows} where
       number-sound at₃ at₃ little 4 _ λ sequence small′ e₄.
       enter-sound input i 5 (sequence ∷ []) (at₃ + 4) (omega arith) (omega arith, tt) (omega arith) (omega arith) row
       (cond-sound (eqb (bit 31 raw) 1)
-      (λ _. issuance-sound i (at₃ + 4) (k tt) row (λ at′ a e. f at′ (omega arith) e))
+      (λ _. issuance-sound i (at₃ + 4) k row (λ at′ a e. f at′ (omega arith) e))
       (λ _. f (at₃ + 4) (omega arith) e₄))))
 
-  output-sound : (i : ℕ) (s : Unit {0}) (at : ℕ) (k : Unit {0} → ℕ → Layout Head) → i < r .outs → Goes r at (k tt) → Sound at r at (outputAt i s at k)
+  output-sound : (i at : ℕ) (k : ℕ → Layout Head) → i < r .outs → Goes r at k → Sound at r at (outputAt i at k)
   unfolding outputAt
-  output-sound i s at k row f =
+  output-sound i at k row f =
       token-sound at assetPart _ _ _ (pair r output i 0 _ (omega arith) (λ p n. omega arith) row) λ at₁ a₁ e₁.
       value-sound at₁ _ _ _
       (pair r output i 2 _ (omega arith) (λ p n. omega arith) row)
@@ -255,7 +248,7 @@ module _ (ins outs room : ℕ) (small : room < 2 ^ 32) where
       count-sound at (room - first) _ λ n at₁ less a₁ e₁.
       noting at₁ (q .fair n 0 (omega arith) (omega arith)) (omega (arith, q .ends n 0)) (omega arith) (q .row n 0)
       (grow at₁ (rows ins outs (first + n)) (omega arith) (omega arith)
-      (each-sound (λ _. rows ins outs (first + n)) (λ _. Unit {0}) itemAt (first + n)
+      (each-sound (λ _. rows ins outs (first + n)) (λ _. Unit {0}) (alone itemAt) (first + n)
       (λ j s at k row _ e f. body-sound at itemBody _ _ (pair (rows ins outs (first + n)) item j 0 _ (omega arith) (λ p m. omega arith) row) λ m at′ a e′. f tt tt at′ (omega arith) e′)
       n first tt at₁ _ (omega arith) tt e₁ λ _ _ at₂ a₂ e₂. f n (omega arith) at₂ (omega arith) e₂))
 
@@ -290,13 +283,13 @@ sound room small =
     number-sound 4 4 little 1 _ λ flag _ _.
     count-sound 5 (room .inputs) _ λ ins at₃ _ a₃ e₃.
     grow at₃ (rows ins 0 0) (omega arith) (omega arith)
-    (each-sound (λ _. rows ins 0 0) (λ _. Unit {0}) inputAt ins
-    (λ i s at k row _ e f. input-sound i s at k row (f tt tt))
+    (each-sound (λ _. rows ins 0 0) (λ _. Unit {0}) (alone inputAt) ins
+    (λ i s at k row _ e f. input-sound i at (k tt) row (f tt tt))
     ins 0 tt at₃ _ (omega arith) tt e₃ λ _ _ at₄ a₄ e₄.
     count-sound at₄ (room .outputs) _ λ outs at₅ _ a₅ e₅.
     grow at₅ (rows ins outs 0) (omega arith) (omega arith)
-    (each-sound (λ _. rows ins outs 0) (λ _. Unit {0}) outputAt outs
-    (λ i s at k row _ e f. output-sound i s at k row (f tt tt))
+    (each-sound (λ _. rows ins outs 0) (λ _. Unit {0}) (alone outputAt) outs
+    (λ i s at k row _ e f. output-sound i at (k tt) row (f tt tt))
     outs 0 tt at₅ _ (omega arith) tt e₅ λ _ _ at₆ a₆ e₆.
     number-sound at₆ at₆ little 4 _ λ locktime _ e₇.
     reach (omega arith)

@@ -33,6 +33,13 @@ f ▸ x = f x
 abbrev pub entry : Table → ℕ → ℕ → List ℕ → Entry
 entry t i c ns = record { table = t; row = i; column = c; numbers = ns }
 
+abbrev pub announced : ℕ → ℕ
+announced first = cond (eqb first 253) 2 (cond (eqb first 254) 4 8)
+
+-- The shortest form is required: so many bytes hold at least 253, 65,536 and 4,294,967,296.
+abbrev pub least : ℕ → ℕ
+least bytes = cond (eqb bytes 2) 253 (cond (eqb bytes 4) 65536 4294967296)
+
 module _ {A : Type 0} where
   -- 2: a fixed field or body would end past 4,000,000. Given with the last byte before it.
   unfoldable pub within : ℕ → ℕ → Layout A → Layout A
@@ -45,18 +52,13 @@ module _ {A : Type 0} where
   opaqueAt place at h w k = within place (at + w) ▸ opaque h w ▸ k (at + w)
 
   -- Count or length: first byte 0 to 252 is itself; 253, 254, 255 announce 2, 4, 8 bytes. 3: not in shortest form.
-  unfoldable pub furtherAt : ℕ → ℕ → ℕ → ℕ → (ℕ → ℕ → Layout A) → Layout A
-  furtherAt start at w least k =
-      numberAt start at little w λ n at′.
-      cond (leb least n) (k n at′) (refuse 3 start)
-
   unfoldable pub compactAt : ℕ → (ℕ → ℕ → Layout A) → Layout A
   compactAt at k =
       numberAt at at little 1 λ first at′.
       cond (leb first 252) (k first at′) ▸
-      cond (eqb first 253) (furtherAt at at′ 2 253 k) ▸
-      cond (eqb first 254) (furtherAt at at′ 4 65536 k) ▸
-      furtherAt at at′ 8 4294967296 k
+      numberAt at at′ little (announced first) λ n at″.
+      cond (leb (least (announced first)) n) (k n at″) ▸
+      refuse 3 at
 
   -- 4: count exceeds the records left in its table.
   unfoldable pub countAt : ℕ → ℕ → (ℕ → ℕ → Layout A) → Layout A
@@ -95,10 +97,14 @@ module _ {A : Type 0} where
       cond (listed prefix) (opaqueAt at′ at′ part 32 k) ▸
       refuse 5 at
 
-  -- So many records, numbered on from i, each with what outlasts it.
+  -- So many records, numbered on from i, each handing on what outlasts it.
   unfoldable pub each : {S : Type 0} → (ℕ → S → ℕ → (S → ℕ → Layout A) → Layout A) → ℕ → ℕ → S → ℕ → (S → ℕ → Layout A) → Layout A
   each piece zero i s at k = k s at
   each piece (suc n) i s at k = piece i s at λ s′ at′. each piece n (suc i) s′ at′ k
+
+  -- a record that nothing outlasts
+  abbrev pub alone : (ℕ → ℕ → (ℕ → Layout A) → Layout A) → ℕ → Unit {0} → ℕ → (Unit {0} → ℕ → Layout A) → Layout A
+  alone piece i s at k = piece i at (k s)
 
 -- Raw vout 0xffffffff stays so, with no flag. Otherwise bit 30 is the pegin flag, bit 31 the issuance flag, both cleared in vout.
 unfoldable pub plain : ℕ → Bool
@@ -139,8 +145,8 @@ module _ {A : Type 0} where
       cond (eqb amount 0 && eqb keys 0) (refuse 6 at) (k at₄)
 
   -- Input: txid, vout, script, sequence; issuance, only with its flag.
-  unfoldable pub inputAt : ℕ → Unit {0} → ℕ → (Unit {0} → ℕ → Layout A) → Layout A
-  inputAt i s at k =
+  unfoldable pub inputAt : ℕ → ℕ → (ℕ → Layout A) → Layout A
+  inputAt i at k =
       opaqueAt at at txid 32 λ at₁.
       enter (entry input i 0 (at ∷ [])) ▸
       numberAt at₁ at₁ little 4 λ raw at₂.
@@ -148,26 +154,25 @@ module _ {A : Type 0} where
       bodyAt at₂ scriptBody (λ p n. entry input i 3 (p ∷ n ∷ [])) λ _ at₃.
       numberAt at₃ at₃ little 4 λ sequence at₄.
       enter (entry input i 5 (sequence ∷ [])) ▸
-      cond (eqb (bit 31 raw) 1) (issuanceAt i at₄ (k tt)) (k tt at₄)
+      cond (eqb (bit 31 raw) 1) (issuanceAt i at₄ k) (k at₄)
 
   -- Output: asset, value, nonce, script.
-  unfoldable pub outputAt : ℕ → Unit {0} → ℕ → (Unit {0} → ℕ → Layout A) → Layout A
-  outputAt i s at k =
+  unfoldable pub outputAt : ℕ → ℕ → (ℕ → Layout A) → Layout A
+  outputAt i at k =
       tokenAt at assetPart assets (λ p at. entry output i 0 (p ∷ at ∷ [])) λ at₁.
       valueAt at₁ (λ p at. entry output i 2 (p ∷ at ∷ [])) (λ high low. entry output i 4 (high ∷ low ∷ [])) λ _ at₂.
       tokenAt at₂ noncePart nonces (λ p at. entry output i 6 (p ∷ at ∷ [])) λ at₃.
-      bodyAt at₃ scriptBody (λ p n. entry output i 8 (p ∷ n ∷ [])) λ _ at₄.
-      k tt at₄
+      bodyAt at₃ scriptBody (λ p n. entry output i 8 (p ∷ n ∷ [])) λ _. k
 
   -- Stack: a count, then items of length, body. The items are numbered on through all stacks.
-  unfoldable pub itemAt : ℕ → Unit {0} → ℕ → (Unit {0} → ℕ → Layout A) → Layout A
-  itemAt j s at k = bodyAt at itemBody (λ p n. entry item j 0 (p ∷ n ∷ [])) λ _. k tt
+  unfoldable pub itemAt : ℕ → ℕ → (ℕ → Layout A) → Layout A
+  itemAt j at k = bodyAt at itemBody (λ p n. entry item j 0 (p ∷ n ∷ [])) λ _. k
 
   unfoldable pub stackAt : ℕ → ℕ → ℕ → (ℕ → Entry) → (ℕ → ℕ → Layout A) → Layout A
   stackAt room first at note k =
       countAt at (room - first) λ n at₁.
       enter (note n) ▸
-      each itemAt n first tt at₁ λ _. k n
+      each (alone itemAt) n first tt at₁ λ _. k n
 
   -- Input witness: amount proof, keys proof, script stack, pegin stack. The first item's index enters with the script count.
   unfoldable pub inputWitnessAt : ℕ → ℕ → Seen → ℕ → (Seen → ℕ → Layout A) → Layout A
@@ -192,9 +197,9 @@ transaction room =
     numberAt 0 0 little 4 λ version at₁.
     numberAt at₁ at₁ little 1 λ flag at₂.
     countAt at₂ (room .inputs) λ ins at₃.
-    each inputAt ins 0 tt at₃ λ _ at₄.
+    each (alone inputAt) ins 0 tt at₃ λ _ at₄.
     countAt at₄ (room .outputs) λ outs at₅.
-    each outputAt outs 0 tt at₅ λ _ at₆.
+    each (alone outputAt) outs 0 tt at₅ λ _ at₆.
     numberAt at₆ at₆ little 4 λ locktime at₇.
     let head : ℕ → ℕ → Head = λ n at. record { version = version; flag = flag; inputs = ins; outputs = outs; items = n; locktime = locktime; bytes = at } in
     cond (eqb flag 0) (accept (head 0 at₇)) ▸
