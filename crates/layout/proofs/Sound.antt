@@ -9,7 +9,7 @@ use lib.ListN.{length, getD, take, drop}
 use borrow.Author.Tests.{leb-true, leb-false, eqb-true, eqb-false}
 use Rattle.layout.specs.Number.{Order, little, big, value, Bytes}
 use Rattle.layout.specs.Layout.{Layout, number, opaque, enter, refuse, accept, Answer, finished, more, refused, Reading, reading, behind, noted, Entry, Table, input, output, item, Hidden, txid, blindingNonce, entropy, assetPart, noncePart, commitmentPart, scriptBody, proofBody, itemBody, run}
-use Rattle.layout.specs.Transaction.{Head, Room, limit, entry, within, numberAt, opaqueAt, announced, least, compactAt, countAt, bodyAt, valueAt, tokenAt, each, alone, plain, bit, vout, flags, Seen, seen, issuanceAt, inputAt, outputAt, itemAt, stackAt, inputWitnessAt, outputWitnessAt, transaction}
+use Rattle.layout.specs.Transaction.{Head, Room, limit, entry, within, numberAt, opaqueAt, announced, least, compactAt, countAt, bodyAt, valueAt, prefixedAt, each, alone, allOnes, flagBit, vout, flags, Seen, seen, issuanceAt, inputAt, outputAt, itemAt, stackAt, inputWitnessAt, outputWitnessAt, transaction}
 use Rattle.layout.specs.Outcome.{width}
 use native.Mathlib.Nat.{add-assoc, add-zero}
 use Rattle.layout.proofs.Reading.{by-cases, fieldRun, field-case, finished-not-more}
@@ -84,9 +84,9 @@ module _ {b : ℕ} {r : Rows} where
   unfolding numberAt
   number-sound place at o w k f = within-sound place at (at + w) _ λ h. field h λ v small. f v small h
 
-  opaque-sound : (place at : ℕ) (h : Hidden) (w : ℕ) (k : ℕ → Layout Head) → (at + w ≤ limit → Sound b r (at + w) (k (at + w))) → Sound b r at (opaqueAt place at h w k)
+  opaque-sound : (at : ℕ) (h : Hidden) (w : ℕ) (k : ℕ → Layout Head) → (at + w ≤ limit → Sound b r (at + w) (k (at + w))) → Sound b r at (opaqueAt at h w k)
   unfolding opaqueAt
-  opaque-sound place at h w k f = within-sound place at (at + w) _ λ e. skip e (f e)
+  opaque-sound at h w k f = within-sound at at (at + w) _ λ e. skip e (f e)
 
 -- what follows a count or length of any value, at any later place
 abbrev Follows : ℕ → Rows → ℕ → (ℕ → ℕ → Layout Head) → Type 0
@@ -146,28 +146,28 @@ module _ {r : Rows} where
       (f p (at + 1 + 8) (omega arith) e′))
       λ t₁.
       cond-sound (eqb p 8 || eqb p 9)
-      (λ _. opaque-sound (at + 1) (at + 1) commitmentPart 32 _ λ e′. reach (rw (t₀, t₁) (omega arith)) (f p (at + 1 + 32) (omega arith) e′))
+      (λ _. opaque-sound (at + 1) commitmentPart 32 _ λ e′. reach (rw (t₀, t₁) (omega arith)) (f p (at + 1 + 32) (omega arith) e′))
       (λ _. stop))
     where
       grow-zero : {m n : ℕ} → m ≤ 0 → m ≤ n
       grow-zero h = omega arith
 
-  token-sound : (at : ℕ) (part : Hidden) (listed : ℕ → Bool) (note : ℕ → ℕ → Entry) (k : ℕ → Layout Head) → Pair r (λ p at. at + cond (eqb p 0) 1 33) note → Goes r at k → Sound at r at (tokenAt at part listed note k)
-  unfolding tokenAt
+  token-sound : (at : ℕ) (part : Hidden) (listed : ℕ → Bool) (note : ℕ → ℕ → Entry) (k : ℕ → Layout Head) → Pair r (λ p at. at + cond (eqb p 0) 1 33) note → Goes r at k → Sound at r at (prefixedAt at part listed note k)
+  unfolding prefixedAt
   token-sound at part listed note k q f =
       number-sound at at little 1 _ λ p small e.
       noting (at + cond (eqb p 0) 1 33) (q .fair p at (omega arith) (omega arith)) (q .ends p at) (omega arith) (q .row p at)
       (cond-sound (eqb p 0) (λ t. reach (rw t (omega arith)) (f (at + 1) (omega arith) e)) λ t.
       cond-sound (listed p)
-      (λ _. opaque-sound (at + 1) (at + 1) part 32 _ λ e′. reach (rw t (omega arith)) (f (at + 1 + 32) (omega arith) e′))
+      (λ _. opaque-sound (at + 1) part 32 _ λ e′. reach (rw t (omega arith)) (f (at + 1 + 32) (omega arith) e′))
       (λ _. stop))
 
 vout-small : (raw : ℕ) → raw < 2 ^ 32 → vout raw < 2 ^ 32
-unfolding vout plain
+unfolding vout allOnes
 vout-small raw h = by-cases (eqb raw 0xffff_ffff) (λ t. rw t h) (λ t. rw t (omega arith))
 
-bit-small : (n raw : ℕ) → bit n raw < 2
-unfolding bit plain
+bit-small : (n raw : ℕ) → flagBit n raw < 2
+unfolding flagBit allOnes
 bit-small n raw = by-cases (eqb raw 0xffff_ffff) (λ t. rw t (omega arith)) (λ t. rw t (omega arith))
 
 flags-small : (raw : ℕ) → flags raw < 4
@@ -185,9 +185,9 @@ module _ {r : Rows} where
   issuance-sound : (i at : ℕ) (k : ℕ → Layout Head) → i < r .ins → Goes r at k → Sound at r at (issuanceAt i at k)
   unfolding issuanceAt
   issuance-sound i at k row f =
-      opaque-sound at at blindingNonce 32 _ λ e₁.
+      opaque-sound at blindingNonce 32 _ λ e₁.
       enter-sound input i 6 (at ∷ []) (at + 64) (omega arith) (omega arith, tt) (omega arith) (omega arith) row
-      (opaque-sound (at + 32) (at + 32) entropy 32 _ λ e₂.
+      (opaque-sound (at + 32) entropy 32 _ λ e₂.
       reach (omega arith)
       (value-sound (at + 32 + 32) _ _ _
       (single r input i 7 _ (omega arith) (λ p n. omega arith) row)
@@ -202,14 +202,14 @@ module _ {r : Rows} where
   input-sound : (i at : ℕ) (k : ℕ → Layout Head) → i < r .ins → Goes r at k → Sound at r at (inputAt i at k)
   unfolding inputAt
   input-sound i at k row f =
-      opaque-sound at at txid 32 _ λ e₁.
+      opaque-sound at txid 32 _ λ e₁.
       enter-sound input i 0 (at ∷ []) (at + 32) (omega arith) (omega arith, tt) (omega arith) (omega arith) row
       (number-sound (at + 32) (at + 32) little 4 _ λ raw small e₂.
       enter-sound input i 1 (vout raw ∷ flags raw ∷ []) (at + 32 + 4) (omega arith) (vout-small raw small, (omega (arith, flags-small raw), tt)) (omega arith) (omega arith) row
       (body-sound (at + 32 + 4) scriptBody _ _ (pair r input i 3 _ (omega arith) (λ p n. omega arith) row) λ n at₃ a₃ e₃.
       number-sound at₃ at₃ little 4 _ λ sequence small′ e₄.
       enter-sound input i 5 (sequence ∷ []) (at₃ + 4) (omega arith) (omega arith, tt) (omega arith) (omega arith) row
-      (cond-sound (eqb (bit 31 raw) 1)
+      (cond-sound (eqb (flagBit 31 raw) 1)
       (λ _. issuance-sound i (at₃ + 4) k row (λ at′ a e. f at′ (omega arith) e))
       (λ _. f (at₃ + 4) (omega arith) e₄))))
 

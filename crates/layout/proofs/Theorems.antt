@@ -12,17 +12,12 @@ use borrow.Author.Tests.{ltb-true, ltb-false, lt-ltb}
 use Rattle.layout.specs.Number.{Bytes}
 use Rattle.layout.specs.Layout.{Layout, Answer, finished, more, refused, Reading, reading, Entry, Table, input, output, item, run, hides}
 use Rattle.layout.specs.Transaction.{Head, Room, limit, transaction}
-use Rattle.layout.specs.Outcome.{Tables, Sizes, width, roomOf, zeros, change, lay, laid, Outcome, shown, outcome, readingOf, partial, finish, ended, atOnce, follow, strictly, strict, bears, Bearing}
+use Rattle.layout.specs.Outcome.{Tables, Sizes, width, roomOf, zeros, change, lay, laid, Outcome, shown, outcome, readingOf, partial, finish, ended, atOnce, follow, strictly, strict, bears, Bearing, Agree}
 use Rattle.layout.proofs.Reading as reading-laws
 use Rattle.layout.proofs.Reading.{chain, rest, finished-not-more}
 use Rattle.layout.proofs.Sound.{Each, Fair, Inside, Kept, Done, Rows, rowsOf, counts, rows, endOf, transaction-kept}
 
 -- ---- demand 3's second half
-
--- Two inputs of one length that agree at each bearing byte of the first.
-pub record Agree (z : Sizes) (xs ys : List ℕ) : Type 0 where
-  pub alike : length xs ≡ length ys
-  pub bearing : (i : ℕ) → Bearing z xs i → getD xs i 0 ≡ getD ys i 0
 
 bears-there : (n i : ℕ) (hidden : Bool) → i < n → hidden ≡ false → (ltb i n && not hidden) ≡ true
 bears-there n i hidden h e = rw (lt-ltb i n h, e)

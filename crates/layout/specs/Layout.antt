@@ -18,7 +18,7 @@ pub record Entry : Type 0 where
   pub column : ℕ
   pub numbers : List ℕ
 
--- The bytes that are never looked at, by the names of 01's "Bearing bytes".
+-- The bytes that are never looked at, by the names of 01's "Bearing bytes": labels for the reader, nothing depends on them.
 pub data Hidden : Type 0 where
   txid : Hidden
   blindingNonce : Hidden
@@ -31,7 +31,7 @@ pub data Hidden : Type 0 where
   itemBody : Hidden
 
 -- A layout ends with a result of type A: the head numbers, where it is a transaction's.
---     number     a field of so many bytes, whose value decides what follows
+--     number     a field of so many bytes; what follows may use its value
 --     opaque     so many bytes that are never looked at
 --     enter      numbers go into a table
 --     refuse     a refusal's number and place
@@ -81,7 +81,7 @@ module _ {A : Type 0} where
   run (refuse n p) xs = reading (refused n p) 0 []
   run (accept a) xs = reading (finished a) 0 []
 
-  -- Does byte i stand in a part that is never looked at?
+  -- Does byte i, one that was taken, stand in a part that is never looked at?
   unfoldable pub hides : Layout A → List ℕ → ℕ → Bool
   hides (number o w k) xs i = cond (ltb i w) false (hides (k (value o (take w xs))) (drop w xs) (i - w))
   hides (opaque h w l) xs i = cond (ltb i w) true (hides l (drop w xs) (i - w))

@@ -1,8 +1,8 @@
 -- Document 01 as definitions, in its words and order. What a reader must believe stands here and nowhere else.
 --     Number        numbers in bytes
 --     Layout        what a layout is, and its reading
---     Transaction   the layout: every field, every refusal of a reading, every number that enters a table
---     Outcome       what the caller sees: answer, bytes taken, tables; finishing, reading at once, the strict form; bearing bytes
+--     Transaction   the layout: every field, refusals 2 to 8, every number that enters a table
+--     Outcome       what the caller sees: answer, bytes taken, tables; finishing (1), reading at once, the strict form (9); bearing bytes
 pub mod Number
 pub mod Layout
 pub mod Transaction

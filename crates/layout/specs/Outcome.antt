@@ -1,10 +1,11 @@
 -- What the caller sees of 01's reading.
-use Prim.Native.Nat.{ℕ, _+_, _*_, _/_, _<_, min}
+use Prim.Native.Nat.{ℕ, _+_, _*_, _/_, min}
 use mathlib.Core.Path.{_≡_}
-use mathlib.Core.Bool.{Bool, true, false, cond, not, _&&_}
+use mathlib.Core.Bool.{Bool, true, cond, not, _&&_}
 use mathlib.Core.List.{List, [], _∷_}
+use mathlib.Core.Option.{Option, none, some}
 use lib.Dec.{ltb}
-use lib.ListN.{length, replicate}
+use lib.ListN.{length, getD, replicate}
 use lib.Seq.{sets}
 use Rattle.layout.specs.Layout.{Layout, Reading, Answer, finished, more, refused, Entry, Table, input, output, item, reading, run, hides}
 use Rattle.layout.specs.Transaction.{Head, Room, transaction}
@@ -28,7 +29,8 @@ width item = 2
 
 -- A table holds as many whole records as fit; the item table at most 4,294,967,295, so that each stack count is a u32.
 abbrev pub roomOf : Sizes → Room
-roomOf z = record { inputs = z .inputs / 20; outputs = z .outputs / 14; items = min (z .items / 2) 4294967295 }
+roomOf z =
+    record { inputs = z .inputs / width input; outputs = z .outputs / width output; items = min (z .items / width item) 4294967295 }
 
 abbrev pub zeros : Sizes → Tables
 zeros z = record { inputs = replicate (z .inputs) 0; outputs = replicate (z .outputs) 0; items = replicate (z .items) 0 }
@@ -45,11 +47,30 @@ unfoldable pub laid : List Entry → Tables → Tables
 laid [] t = t
 laid (e ∷ es) t = laid es (lay e t)
 
--- Answer, bytes taken and tables. After a refusal all tables are 0; head numbers show only when finished.
+-- Answer, bytes taken and tables. After a refusal (1 to 9 are all that a reading gives) every table is 0: what it entered doesn't show.
 pub record Outcome : Type 0 where
   pub answer : Answer Head
   pub taken : ℕ
   pub tables : Tables
+
+-- 01's numbers for each answer: finished is 0, more wanted a case by itself, both with place 0; head numbers show only when finished.
+abbrev pub numberOf : {A : Type 0} → Answer A → Option ℕ
+numberOf (finished a) = some 0
+numberOf more = none
+numberOf (refused n p) = some n
+
+abbrev pub placeOf : {A : Type 0} → Answer A → ℕ
+placeOf (finished a) = 0
+placeOf more = 0
+placeOf (refused n p) = p
+
+abbrev pub noHead : Head
+noHead = record { version = 0; flag = 0; inputs = 0; outputs = 0; items = 0; locktime = 0; bytes = 0 }
+
+abbrev pub headShown : Answer Head → Head
+headShown (finished h) = h
+headShown more = noHead
+headShown (refused n p) = noHead
 
 abbrev pub shown : Answer Head → Tables → Tables → Tables
 shown (finished h) t z = t
@@ -94,6 +115,10 @@ strict z xs = outcome z (strictly (length xs) (ended (readingOf z xs)))
 abbrev pub bears : {A : Type 0} → Layout A → List ℕ → ℕ → Bool
 bears l xs i = ltb i (run l xs .taken) && not (hides l xs i)
 
--- Two inputs that agree at each bearing byte of the first.
 abbrev pub Bearing : Sizes → List ℕ → ℕ → Type 0
 Bearing z xs i = bears (transaction (roomOf z)) xs i ≡ true
+
+-- Two inputs of one length that agree at each bearing byte of the first, and differ as they like elsewhere.
+pub record Agree (z : Sizes) (xs ys : List ℕ) : Type 0 where
+  pub alike : length xs ≡ length ys
+  pub bearing : (i : ℕ) → Bearing z xs i → getD xs i 0 ≡ getD ys i 0

@@ -1,8 +1,8 @@
--- Document 01's layout of a transaction. Each piece starts at a position and hands on the position behind it.
+-- Document 01's layout of a transaction. Each part of it starts at a position and hands on the position behind it.
 use Prim.Native.Nat.{ℕ, zero, suc, _+_, _-_, _*_, _/_, _%_, _^_}
 use mathlib.Core.Bool.{Bool, true, cond, _&&_, _||_}
 use mathlib.Core.List.{List, [], _∷_}
-use lib.Dec.{leb, ltb, eqb}
+use lib.Dec.{leb, eqb}
 use Rattle.layout.specs.Number.{Order, little, big}
 use Rattle.layout.specs.Layout.{Layout, number, opaque, enter, refuse, accept, Entry, Table, input, output, item, Hidden, txid, blindingNonce, entropy, assetPart, noncePart, commitmentPart, scriptBody, proofBody, itemBody}
 
@@ -33,6 +33,7 @@ f ▸ x = f x
 abbrev pub entry : Table → ℕ → ℕ → List ℕ → Entry
 entry t i c ns = record { table = t; row = i; column = c; numbers = ns }
 
+-- 253, 254, 255 announce 2, 4, 8 bytes.
 abbrev pub announced : ℕ → ℕ
 announced first = cond (eqb first 253) 2 (cond (eqb first 254) 4 8)
 
@@ -48,10 +49,10 @@ module _ {A : Type 0} where
   unfoldable pub numberAt : ℕ → ℕ → Order → ℕ → (ℕ → ℕ → Layout A) → Layout A
   numberAt place at o w k = within place (at + w) ▸ number o w λ v. k v (at + w)
 
-  unfoldable pub opaqueAt : ℕ → ℕ → Hidden → ℕ → (ℕ → Layout A) → Layout A
-  opaqueAt place at h w k = within place (at + w) ▸ opaque h w ▸ k (at + w)
+  unfoldable pub opaqueAt : ℕ → Hidden → ℕ → (ℕ → Layout A) → Layout A
+  opaqueAt at h w k = within at (at + w) ▸ opaque h w ▸ k (at + w)
 
-  -- Count or length: first byte 0 to 252 is itself; 253, 254, 255 announce 2, 4, 8 bytes. 3: not in shortest form.
+  -- Count or length: first byte 0 to 252 is itself; others announce further bytes. 3: not in shortest form.
   unfoldable pub compactAt : ℕ → (ℕ → ℕ → Layout A) → Layout A
   compactAt at k =
       numberAt at at little 1 λ first at′.
@@ -85,47 +86,47 @@ module _ {A : Type 0} where
       (numberAt at′ at′ big 8 λ v at″.
       enter (amount (v / 2 ^ 32) (v % 2 ^ 32)) ▸
       k prefix at″) ▸
-      cond (eqb prefix 8 || eqb prefix 9) (opaqueAt at′ at′ commitmentPart 32 (k prefix)) ▸
+      cond (eqb prefix 8 || eqb prefix 9) (opaqueAt at′ commitmentPart 32 (k prefix)) ▸
       refuse 5 at
 
   -- Asset: prefix 0 null; 1, 10 or 11 and 32 bytes. Nonce: prefix 0 null; 1, 2 or 3 and 32 bytes.
-  unfoldable pub tokenAt : ℕ → Hidden → (ℕ → Bool) → (ℕ → ℕ → Entry) → (ℕ → Layout A) → Layout A
-  tokenAt at part listed note k =
+  unfoldable pub prefixedAt : ℕ → Hidden → (ℕ → Bool) → (ℕ → ℕ → Entry) → (ℕ → Layout A) → Layout A
+  prefixedAt at body listed note k =
       numberAt at at little 1 λ prefix at′.
       enter (note prefix at) ▸
       cond (eqb prefix 0) (k at′) ▸
-      cond (listed prefix) (opaqueAt at′ at′ part 32 k) ▸
+      cond (listed prefix) (opaqueAt at′ body 32 k) ▸
       refuse 5 at
 
-  -- So many records, numbered on from i, each handing on what outlasts it.
+  -- So many records, numbered on from i. Each hands on what later ones need of it.
   unfoldable pub each : {S : Type 0} → (ℕ → S → ℕ → (S → ℕ → Layout A) → Layout A) → ℕ → ℕ → S → ℕ → (S → ℕ → Layout A) → Layout A
-  each piece zero i s at k = k s at
-  each piece (suc n) i s at k = piece i s at λ s′ at′. each piece n (suc i) s′ at′ k
+  each part zero i s at k = k s at
+  each part (suc n) i s at k = part i s at λ s′ at′. each part n (suc i) s′ at′ k
 
-  -- a record that nothing outlasts
+  -- a record of which later ones need nothing
   abbrev pub alone : (ℕ → ℕ → (ℕ → Layout A) → Layout A) → ℕ → Unit {0} → ℕ → (Unit {0} → ℕ → Layout A) → Layout A
-  alone piece i s at k = piece i at (k s)
+  alone part i s at k = part i at (k s)
 
--- Raw vout 0xffffffff stays so, with no flag. Otherwise bit 30 is the pegin flag, bit 31 the issuance flag, both cleared in vout.
-unfoldable pub plain : ℕ → Bool
-plain raw = eqb raw 0xffff_ffff
+-- Raw vout 0xffffffff stays so, with no flag. Otherwise flagBit 30 is the pegin flag, flagBit 31 the issuance flag, both cleared in vout.
+unfoldable pub allOnes : ℕ → Bool
+allOnes raw = eqb raw 0xffff_ffff
 
-unfoldable pub bit : ℕ → ℕ → ℕ
-bit n raw = cond (plain raw) 0 (raw / 2 ^ n % 2)
+unfoldable pub flagBit : ℕ → ℕ → ℕ
+flagBit n raw = cond (allOnes raw) 0 (raw / 2 ^ n % 2)
 
 unfoldable pub vout : ℕ → ℕ
-vout raw = cond (plain raw) raw (raw % 2 ^ 30)
+vout raw = cond (allOnes raw) raw (raw % 2 ^ 30)
 
 unfoldable pub flags : ℕ → ℕ
-flags raw = bit 30 raw + 2 * bit 31 raw
+flags raw = flagBit 30 raw + 2 * flagBit 31 raw
 
-abbrev pub assets : ℕ → Bool
-assets p = eqb p 1 || eqb p 10 || eqb p 11
+abbrev pub assetPrefix : ℕ → Bool
+assetPrefix p = eqb p 1 || eqb p 10 || eqb p 11
 
-abbrev pub nonces : ℕ → Bool
-nonces p = eqb p 1 || eqb p 2 || eqb p 3
+abbrev pub noncePrefix : ℕ → Bool
+noncePrefix p = eqb p 1 || eqb p 2 || eqb p 3
 
--- The items so far, and whether every witness so far is empty: its proofs of length 0, its stacks without items.
+-- What later witnesses need of earlier ones: the items so far, and whether all were empty: proofs of length 0, stacks without items.
 pub record Seen : Type 0 where
   pub items : ℕ
   pub empty : Bool
@@ -137,9 +138,9 @@ module _ {A : Type 0} where
   -- Issuance: blinding nonce, entropy, amount, inflation keys. 6: null, that is, both values are null.
   unfoldable pub issuanceAt : ℕ → ℕ → (ℕ → Layout A) → Layout A
   issuanceAt i at k =
-      opaqueAt at at blindingNonce 32 λ at₁.
+      opaqueAt at blindingNonce 32 λ at₁.
       enter (entry input i 6 (at ∷ [])) ▸
-      opaqueAt at₁ at₁ entropy 32 λ at₂.
+      opaqueAt at₁ entropy 32 λ at₂.
       valueAt at₂ (λ p _. entry input i 7 (p ∷ [])) (λ high low. entry input i 8 (high ∷ low ∷ [])) λ amount at₃.
       valueAt at₃ (λ p _. entry input i 10 (p ∷ [])) (λ high low. entry input i 11 (high ∷ low ∷ [])) λ keys at₄.
       cond (eqb amount 0 && eqb keys 0) (refuse 6 at) (k at₄)
@@ -147,21 +148,21 @@ module _ {A : Type 0} where
   -- Input: txid, vout, script, sequence; issuance, only with its flag.
   unfoldable pub inputAt : ℕ → ℕ → (ℕ → Layout A) → Layout A
   inputAt i at k =
-      opaqueAt at at txid 32 λ at₁.
+      opaqueAt at txid 32 λ at₁.
       enter (entry input i 0 (at ∷ [])) ▸
       numberAt at₁ at₁ little 4 λ raw at₂.
       enter (entry input i 1 (vout raw ∷ flags raw ∷ [])) ▸
       bodyAt at₂ scriptBody (λ p n. entry input i 3 (p ∷ n ∷ [])) λ _ at₃.
       numberAt at₃ at₃ little 4 λ sequence at₄.
       enter (entry input i 5 (sequence ∷ [])) ▸
-      cond (eqb (bit 31 raw) 1) (issuanceAt i at₄ k) (k at₄)
+      cond (eqb (flagBit 31 raw) 1) (issuanceAt i at₄ k) (k at₄)
 
   -- Output: asset, value, nonce, script.
   unfoldable pub outputAt : ℕ → ℕ → (ℕ → Layout A) → Layout A
   outputAt i at k =
-      tokenAt at assetPart assets (λ p at. entry output i 0 (p ∷ at ∷ [])) λ at₁.
+      prefixedAt at assetPart assetPrefix (λ p at. entry output i 0 (p ∷ at ∷ [])) λ at₁.
       valueAt at₁ (λ p at. entry output i 2 (p ∷ at ∷ [])) (λ high low. entry output i 4 (high ∷ low ∷ [])) λ _ at₂.
-      tokenAt at₂ noncePart nonces (λ p at. entry output i 6 (p ∷ at ∷ [])) λ at₃.
+      prefixedAt at₂ noncePart noncePrefix (λ p at. entry output i 6 (p ∷ at ∷ [])) λ at₃.
       bodyAt at₃ scriptBody (λ p n. entry output i 8 (p ∷ n ∷ [])) λ _. k
 
   -- Stack: a count, then items of length, body. The items are numbered on through all stacks.

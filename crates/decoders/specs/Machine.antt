@@ -1,0 +1,373 @@
+-- The reader's state machine, as pure functions on its state. It says what every state does, forged ones too; proofs/ tie it to
+-- document 01's reading. `settle` is what happens when a field's last byte is taken; its bytes are counted in `taken` already.
+use Prim.Native.Nat.{ℕ, zero, suc, _+_, _-_, _*_, _/_, _%_, _^_, min}
+use mathlib.Core.Bool.{Bool, true, false, cond, _&&_, _||_}
+use mathlib.Core.List.{List, [], _∷_}
+use lib.Dec.{leb, ltb, eqb}
+use lib.ListN.{set}
+use Rattle.layout.specs.Layout.{Answer, refused, more}
+use Rattle.layout.specs.Outcome.{Tables}
+use Rattle.layout.specs.Transaction.{Head, limit, announced, least, vout, flags, flagBit, assetPrefix, noncePrefix, _▸_}
+use Rattle.decoders.specs.declared.Field.{Field}
+use Rattle.decoders.specs.declared.Sizes.{Sizes}
+use Rattle.decoders.specs.declared.Counts.{Counts}
+use Rattle.decoders.specs.declared.Spot.{Spot}
+use Rattle.decoders.specs.declared.Entered.{Entered}
+use Rattle.decoders.specs.declared.Settled.{Settled}
+use Rattle.decoders.specs.declared.TransactionDecoder.{TransactionDecoder}
+
+-- ---- the state's parts
+
+abbrev pub State : Type 0
+State = TransactionDecoder
+
+abbrev pub field : ℕ → ℕ → ℕ → ℕ → ℕ → Field
+field stage form width have value = record { stage = stage; form = form; width = width; have = have; value = value }
+
+abbrev pub withField : Field → State → State
+withField f s = record { field = f; taken = s .taken; sizes = s .sizes; counts = s .counts; spot = s .spot }
+
+abbrev pub withCounts : Counts → State → State
+withCounts c s = record { field = s .field; taken = s .taken; sizes = s .sizes; counts = c; spot = s .spot }
+
+abbrev pub withSpot : Spot → State → State
+withSpot p s = record { field = s .field; taken = s .taken; sizes = s .sizes; counts = s .counts; spot = p }
+
+-- a setter for each number that outlasts a field
+abbrev pub setVersion : ℕ → State → State
+setVersion n s = withCounts (record { version = n; flag = s .counts .flag; inputs = s .counts .inputs; outputs = s .counts .outputs; items = s .counts .items; locktime = s .counts .locktime }) s
+
+abbrev pub setFlag : ℕ → State → State
+setFlag n s = withCounts (record { version = s .counts .version; flag = n; inputs = s .counts .inputs; outputs = s .counts .outputs; items = s .counts .items; locktime = s .counts .locktime }) s
+
+abbrev pub setInputs : ℕ → State → State
+setInputs n s = withCounts (record { version = s .counts .version; flag = s .counts .flag; inputs = n; outputs = s .counts .outputs; items = s .counts .items; locktime = s .counts .locktime }) s
+
+abbrev pub setOutputs : ℕ → State → State
+setOutputs n s = withCounts (record { version = s .counts .version; flag = s .counts .flag; inputs = s .counts .inputs; outputs = n; items = s .counts .items; locktime = s .counts .locktime }) s
+
+abbrev pub setItems : ℕ → State → State
+setItems n s = withCounts (record { version = s .counts .version; flag = s .counts .flag; inputs = s .counts .inputs; outputs = s .counts .outputs; items = n; locktime = s .counts .locktime }) s
+
+abbrev pub setLocktime : ℕ → State → State
+setLocktime n s = withCounts (record { version = s .counts .version; flag = s .counts .flag; inputs = s .counts .inputs; outputs = s .counts .outputs; items = s .counts .items; locktime = n }) s
+
+abbrev pub setIndex : ℕ → State → State
+setIndex n s = withSpot (record { index = n; left = s .spot .left; issuance = s .spot .issuance; null = s .spot .null; empty = s .spot .empty }) s
+
+abbrev pub setLeft : ℕ → State → State
+setLeft n s = withSpot (record { index = s .spot .index; left = n; issuance = s .spot .issuance; null = s .spot .null; empty = s .spot .empty }) s
+
+abbrev pub setIssuance : ℕ → State → State
+setIssuance n s = withSpot (record { index = s .spot .index; left = s .spot .left; issuance = n; null = s .spot .null; empty = s .spot .empty }) s
+
+abbrev pub setNull : ℕ → State → State
+setNull n s = withSpot (record { index = s .spot .index; left = s .spot .left; issuance = s .spot .issuance; null = n; empty = s .spot .empty }) s
+
+abbrev pub setEmpty : ℕ → State → State
+setEmpty n s = withSpot (record { index = s .spot .index; left = s .spot .left; issuance = s .spot .issuance; null = s .spot .null; empty = n }) s
+
+-- how many records the tables hold, as document 01 counts them
+abbrev pub inputRoom : State → ℕ
+inputRoom s = s .sizes .inputs / 20
+
+abbrev pub outputRoom : State → ℕ
+outputRoom s = s .sizes .outputs / 14
+
+abbrev pub itemRoom : State → ℕ
+itemRoom s = min (s .sizes .items / 2) 4294967295
+
+-- ---- ended states, and opening the next field
+
+-- Stage 26: a refusal; `value` is its number and `have` its place, all else but the sizes and the bytes taken is 0.
+unfoldable pub refuse : ℕ → ℕ → State → State
+refuse n place s =
+    record {
+      field = field 26 0 0 place n;
+      taken = s .taken;
+      sizes = s .sizes;
+      counts = record { version = 0; flag = 0; inputs = 0; outputs = 0; items = 0; locktime = 0 };
+      spot = record { index = 0; left = 0; issuance = 0; null = 0; empty = 0 };
+    }
+
+-- Stage 25: finished.
+unfoldable pub finished : State → State
+finished s = withField (field 25 0 0 0 0) s
+
+-- A field is opened behind the bytes taken, or refused by number 2. Forms: 0 little-endian, 1 big-endian, 2 the first byte of a
+-- count or length, 3 its further bytes, 4 bytes that are never looked at.
+unfoldable pub opened : ℕ → ℕ → ℕ → ℕ → State → State
+opened place stage form width s = cond (leb (s .taken + width) limit) (withField (field stage form width 0 0) s) (refuse 2 place s)
+
+abbrev pub number : ℕ → ℕ → State → State
+number stage width s = opened (s .taken) stage 0 width s
+
+abbrev pub compact : ℕ → State → State
+compact stage s = opened (s .taken) stage 2 1 s
+
+abbrev pub opaque : ℕ → State → State
+opaque stage s = opened (s .taken) stage 4 32 s
+
+-- ---- what follows a record, an item, a body
+
+unfoldable pub nextInput : State → State
+nextInput s = cond (ltb (s .spot .index) (s .counts .inputs)) (opaque 3 s) (compact 11 s)
+
+unfoldable pub nextOutput : State → State
+nextOutput s = cond (ltb (s .spot .index) (s .counts .outputs)) (number 12 1 s) (number 16 4 s)
+
+unfoldable pub witnessesEnd : State → State
+witnessesEnd s = cond (eqb (s .spot .empty) 1) (refuse 8 4 s) (finished s)
+
+unfoldable pub nextOutputWitness : State → State
+nextOutputWitness s = cond (ltb (s .spot .index) (s .counts .outputs)) (compact 23 s) (witnessesEnd s)
+
+unfoldable pub nextInputWitness : State → State
+nextInputWitness s = cond (ltb (s .spot .index) (s .counts .inputs)) (compact 17 s) (nextOutputWitness (setIndex 0 s))
+
+abbrev pub further : State → State
+further s = setIndex (s .spot .index + 1) s
+
+unfoldable pub nextScriptItem : State → State
+nextScriptItem s = cond (ltb 0 (s .spot .left)) (compact 20 s) (compact 21 s)
+
+unfoldable pub nextPeginItem : State → State
+nextPeginItem s = cond (ltb 0 (s .spot .left)) (compact 22 s) (nextInputWitness (further s))
+
+abbrev pub itemEnds : State → State
+itemEnds s = setItems (s .counts .items + 1) (setLeft (s .spot .left - 1) s)
+
+-- by the body's stage
+unfoldable pub bodyEnds : ℕ → State → State
+bodyEnds stage s =
+    cond (eqb stage 5) (number 6 4 s) ▸
+    cond (eqb stage 15) (nextOutput (further s)) ▸
+    cond (eqb stage 17) (compact 18 s) ▸
+    cond (eqb stage 18) (compact 19 s) ▸
+    cond (eqb stage 20) (nextScriptItem (itemEnds s)) ▸
+    cond (eqb stage 22) (nextPeginItem (itemEnds s)) ▸
+    cond (eqb stage 23) (compact 24 s) ▸
+    nextOutputWitness (further s)
+
+-- ---- what enters the tables
+
+abbrev pub entered : ℕ → ℕ → ℕ → ℕ → ℕ → ℕ → Entered
+entered table count at number at2 number2 = record { table = table; count = count; at = at; number = number; at2 = at2; number2 = number2 }
+
+abbrev pub settled : State → Entered → Settled
+settled s e = record { decoder = s; entered = e }
+
+abbrev pub quiet : State → Settled
+quiet s = settled s (entered 0 0 0 0 0 0)
+
+-- one number, or two neighbours, of the present input, output or item record
+abbrev pub input1 : ℕ → ℕ → State → Entered
+input1 column n s = entered 1 1 (20 * s .spot .index + column) n 0 0
+
+abbrev pub input2 : ℕ → ℕ → ℕ → State → Entered
+input2 column n m s = entered 1 2 (20 * s .spot .index + column) n (20 * s .spot .index + column + 1) m
+
+abbrev pub output2 : ℕ → ℕ → ℕ → State → Entered
+output2 column n m s = entered 2 2 (14 * s .spot .index + column) n (14 * s .spot .index + column + 1) m
+
+abbrev pub item2 : ℕ → ℕ → State → Entered
+item2 n m s = entered 3 2 (2 * s .counts .items + 0) n (2 * s .counts .items + 0 + 1) m
+
+-- ---- counts and lengths
+
+unfoldable pub emptied : ℕ → State → State
+emptied n s = cond (eqb n 0) s (setEmpty 0 s)
+
+-- a body's position and length, by its stage
+unfoldable pub bodyEntered : ℕ → ℕ → State → Entered
+bodyEntered stage n s =
+    cond (eqb stage 5) (input2 3 (s .taken) n s) ▸
+    cond (eqb stage 15) (output2 8 (s .taken) n s) ▸
+    cond (eqb stage 17) (input2 13 (s .taken) n s) ▸
+    cond (eqb stage 18) (input2 15 (s .taken) n s) ▸
+    cond (eqb stage 20 || eqb stage 22) (item2 (s .taken) n s) ▸
+    cond (eqb stage 23) (output2 10 (s .taken) n s) ▸
+    output2 12 (s .taken) n s
+
+-- does a body of this stage bear on whether the witnesses are empty?
+abbrev pub isProof : ℕ → Bool
+isProof stage = eqb stage 17 || eqb stage 18 || eqb stage 23 || eqb stage 24
+
+unfoldable pub lengthSettled : ℕ → ℕ → ℕ → State → Settled
+lengthSettled stage start n s =
+    let t = cond (isProof stage) (emptied n s) s in
+    cond (leb (s .taken + n) limit)
+    (settled (cond (eqb n 0) (bodyEnds stage t) (withField (field stage 4 n 0 0) t)) (bodyEntered stage n s))
+    (quiet (refuse 2 start s))
+
+-- by the count's or length's stage, with its start and value
+unfoldable pub compactSettled : ℕ → ℕ → ℕ → State → Settled
+compactSettled stage start n s =
+    cond (eqb stage 2) (quiet (cond (leb n (inputRoom s)) (nextInput (setIndex 0 (setInputs n s))) (refuse 4 start s))) ▸
+    cond (eqb stage 11) (quiet (cond (leb n (outputRoom s)) (nextOutput (setIndex 0 (setOutputs n s))) (refuse 4 start s))) ▸
+    cond (eqb stage 19)
+    (cond (leb n (itemRoom s - s .counts .items)) (settled (nextScriptItem (emptied n (setLeft n s))) (input2 17 (s .counts .items) n s)) (quiet (refuse 4 start s))) ▸
+    cond (eqb stage 21)
+    (cond (leb n (itemRoom s - s .counts .items)) (settled (nextPeginItem (emptied n (setLeft n s))) (input1 19 n s)) (quiet (refuse 4 start s))) ▸
+    lengthSettled stage start n s
+
+unfoldable pub firstSettled : State → Settled
+firstSettled s =
+    let first = s .field .value in
+    let start = s .taken - 1 in
+    cond (leb first 252) (compactSettled (s .field .stage) start first s) (quiet (opened start (s .field .stage) 3 (announced first) s))
+
+unfoldable pub furtherSettled : State → Settled
+furtherSettled s =
+    let start = s .taken - s .field .width - 1 in
+    cond (leb (least (s .field .width)) (s .field .value)) (compactSettled (s .field .stage) start (s .field .value) s) (quiet (refuse 3 start s))
+
+-- ---- values, assetPrefix and noncePrefix: the prefix, and what it announces
+
+unfoldable pub valueSettled : State → State → State
+valueSettled null s =
+    let prefix = s .field .value in
+    cond (eqb prefix 0) null ▸
+    cond (eqb prefix 1) (opened (s .taken) (s .field .stage) 1 8 s) ▸
+    cond (eqb prefix 8 || eqb prefix 9) (opaque (s .field .stage) s) ▸
+    refuse 5 (s .taken - 1) s
+
+unfoldable pub tokenSettled : (ℕ → Bool) → State → State → State
+tokenSettled listed null s =
+    let prefix = s .field .value in
+    cond (eqb prefix 0) null ▸
+    cond (listed prefix) (opaque (s .field .stage) s) ▸
+    refuse 5 (s .taken - 1) s
+
+abbrev pub high : State → ℕ
+high s = s .field .value / 2 ^ 32
+
+abbrev pub low : State → ℕ
+low s = s .field .value % 2 ^ 32
+
+-- ---- by form and stage
+
+unfoldable pub locktimeSettled : State → State
+locktimeSettled s =
+    cond (eqb (s .counts .flag) 0) (finished s) ▸
+    cond (eqb (s .counts .flag) 1) (nextInputWitness (setEmpty 1 (setIndex 0 s))) ▸
+    refuse 7 4 s
+
+unfoldable pub littleSettled : ℕ → State → Settled
+littleSettled stage s =
+    let v = s .field .value in
+    cond (eqb stage 0) (quiet (number 1 1 (setVersion v s))) ▸
+    cond (eqb stage 1) (quiet (compact 2 (setFlag v s))) ▸
+    cond (eqb stage 4) (settled (compact 5 (setIssuance (flagBit 31 v) s)) (input2 1 (vout v) (flags v) s)) ▸
+    cond (eqb stage 6) (settled (cond (eqb (s .spot .issuance) 1) (opaque 7 s) (nextInput (further s))) (input1 5 v s)) ▸
+    cond (eqb stage 9) (settled (valueSettled (number 10 1 (setNull 1 s)) (setNull 0 s)) (input1 7 v s)) ▸
+    cond (eqb stage 10)
+    (settled (valueSettled (cond (eqb (s .spot .null) 1) (refuse 6 (s .taken - 66) s) (nextInput (further s))) s) (input1 10 v s)) ▸
+    cond (eqb stage 12) (settled (tokenSettled assetPrefix (number 13 1 s) s) (output2 0 v (s .taken - 1) s)) ▸
+    cond (eqb stage 13) (settled (valueSettled (number 14 1 s) s) (output2 2 v (s .taken - 1) s)) ▸
+    cond (eqb stage 14) (settled (tokenSettled noncePrefix (compact 15 s) s) (output2 6 v (s .taken - 1) s)) ▸
+    quiet (locktimeSettled (setLocktime v s))
+
+unfoldable pub bigSettled : ℕ → State → Settled
+bigSettled stage s =
+    cond (eqb stage 9) (settled (number 10 1 s) (input2 8 (high s) (low s) s)) ▸
+    cond (eqb stage 10) (settled (nextInput (further s)) (input2 11 (high s) (low s) s)) ▸
+    settled (number 14 1 s) (output2 4 (high s) (low s) s)
+
+unfoldable pub opaqueSettled : ℕ → State → Settled
+opaqueSettled stage s =
+    cond (eqb stage 3) (settled (number 4 4 s) (input1 0 (s .taken - 32) s)) ▸
+    cond (eqb stage 7) (settled (opaque 8 s) (input1 6 (s .taken - 32) s)) ▸
+    cond (eqb stage 8) (quiet (number 9 1 s)) ▸
+    cond (eqb stage 9) (quiet (number 10 1 s)) ▸
+    cond (eqb stage 10) (quiet (nextInput (further s))) ▸
+    cond (eqb stage 12) (quiet (number 13 1 s)) ▸
+    cond (eqb stage 13) (quiet (number 14 1 s)) ▸
+    cond (eqb stage 14) (quiet (compact 15 s)) ▸
+    quiet (bodyEnds stage s)
+
+unfoldable pub settleBy : ℕ → State → Settled
+settleBy form s =
+    cond (eqb form 0) (littleSettled (s .field .stage) s) ▸
+    cond (eqb form 1) (bigSettled (s .field .stage) s) ▸
+    cond (eqb form 2) (firstSettled s) ▸
+    cond (eqb form 3) (furtherSettled s) ▸
+    opaqueSettled (s .field .stage) s
+
+abbrev pub settle : State → Settled
+settle s = settleBy (s .field .form) s
+
+-- ---- feeding: one byte after another
+
+-- what a byte makes of the value so far: little-endian, big-endian, or never looked at
+unfoldable pub worth : ℕ → ℕ → ℕ → ℕ → ℕ
+worth form value have b = cond (eqb form 4) value ▸ cond (eqb form 1) (value * 256 + b) ▸ value + b * 256 ^ have
+
+abbrev pub gather : State → ℕ → State
+gather s b =
+    record {
+      field = field (s .field .stage) (s .field .form) (s .field .width) (s .field .have + 1) (worth (s .field .form) (s .field .value) (s .field .have) b);
+      taken = s .taken + 1;
+      sizes = s .sizes;
+      counts = s .counts;
+      spot = s .spot;
+    }
+
+abbrev pub stored : Entered → List ℕ → List ℕ
+stored e xs = cond (eqb (e .count) 0) xs ▸ cond (eqb (e .count) 1) (set xs (e .at) (e .number)) ▸ set (set xs (e .at) (e .number)) (e .at2) (e .number2)
+
+abbrev pub enterBy : ℕ → Entered → Tables → Tables
+enterBy table e t =
+    cond (eqb table 0) t ▸
+    cond (eqb table 1) (record { inputs = stored e (t .inputs); outputs = t .outputs; items = t .items }) ▸
+    cond (eqb table 2) (record { inputs = t .inputs; outputs = stored e (t .outputs); items = t .items }) ▸
+    record { inputs = t .inputs; outputs = t .outputs; items = stored e (t .items) }
+
+-- a state with the tables it fills
+pub record Machine : Type 0 where
+  pub state : State
+  pub tables : Tables
+
+abbrev pub machine : State → Tables → Machine
+machine s t = record { state = s; tables = t }
+
+unfoldable pub entering : Settled → Tables → Machine
+entering r t = machine (r .decoder) (enterBy (r .entered .table) (r .entered) t)
+
+-- an ended state stays as it is; a field whose last byte this is settles
+unfoldable pub step : Machine → ℕ → Machine
+step m b =
+    cond (leb 25 (m .state .field .stage)) m ▸
+    cond (eqb (m .state .field .have + 1) (m .state .field .width)) (entering (settle (gather (m .state) b)) (m .tables)) ▸
+    machine (gather (m .state) b) (m .tables)
+
+unfoldable pub fed : Machine → List ℕ → Machine
+fed m [] = m
+fed m (b ∷ bs) = fed (step m b) bs
+
+-- what a state answers
+abbrev pub headOf : State → Head
+headOf s =
+    record {
+      version = s .counts .version;
+      flag = s .counts .flag;
+      inputs = s .counts .inputs;
+      outputs = s .counts .outputs;
+      items = s .counts .items;
+      locktime = s .counts .locktime;
+      bytes = s .taken;
+    }
+
+unfoldable pub answerOf : State → Answer Head
+answerOf s = cond (eqb (s .field .stage) 25) (Answer.finished (headOf s)) ▸ cond (eqb (s .field .stage) 26) (refused (s .field .value) (s .field .have)) ▸ more
+
+-- the fresh start
+abbrev pub fresh : Sizes → State
+fresh z =
+    record {
+      field = field 0 0 4 0 0;
+      taken = 0;
+      sizes = z;
+      counts = record { version = 0; flag = 0; inputs = 0; outputs = 0; items = 0; locktime = 0 };
+      spot = record { index = 0; left = 0; issuance = 0; null = 0; empty = 0 };
+    }
