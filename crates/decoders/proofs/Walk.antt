@@ -12,7 +12,7 @@ use lib.Seq.{sets}
 use borrow.Author.Tests.{leb-true, leb-false, eqb-true, eqb-false, lt-ltb, le-ltb, ne-eqb, eq-eqb}
 use Rattle.layout.specs.Number.{Order, little, big, value}
 use Rattle.layout.specs.Layout.{Layout, number, opaque, enter, refuse, accept, Answer, refused, more, Entry, Table, input, output, item, Hidden, txid, blindingNonce, entropy, assetPart, noncePart, commitmentPart, scriptBody, proofBody, itemBody}
-use Rattle.layout.specs.Transaction.{Head, Room, limit, entry, within, numberAt, opaqueAt, announced, least, compactAt, countAt, bodyAt, valueAt, prefixedAt, each, alone, allOnes, flagBit, vout, flags, assetPrefix, noncePrefix, Seen, seen, issuanceAt, inputAt, outputAt, itemAt, stackAt, inputWitnessAt, outputWitnessAt, transaction}
+use Rattle.layout.specs.Transaction.{Head, Room, limit, entry, within, furtherAt, numberAt, opaqueAt, announced, least, compactAt, countAt, bodyAt, valueAt, prefixedAt, each, alone, allOnes, flagBit, vout, flags, assetPrefix, noncePrefix, Seen, seen, issuanceAt, inputAt, outputAt, itemAt, stackAt, inputWitnessAt, outputWitnessAt, transaction}
 use Rattle.layout.specs.Outcome as layout-outcome
 use Rattle.layout.specs.Outcome.{Tables, lay, roomOf}
 use Rattle.layout.proofs.Reading.{by-cases}
@@ -55,8 +55,8 @@ cond-settled true f g = f refl
 cond-settled false f g = g refl
 
 module _ (σ : ℕ) (running : σ < 25) (g : Field) (at : ℕ) (z : Sizes) (c : Counts) (p : Spot) where
-  number-at : (place f w : ℕ) (o : Order) (k : ℕ → ℕ → Layout Head) → 0 < w → ((bs : List ℕ) → worthOf f bs ≡ value o bs) → ((v : ℕ) → v < 256 ^ w → At (at + w) (settle (st σ f w w v (at + w) z c p)) (k v (at + w))) → At at (quiet (opened place σ f w (on g at z c p))) (numberAt place at o w k)
-  unfolding numberAt within opened
+  number-at : (place f w : ℕ) (o : Order) (k : ℕ → ℕ → Layout Head) → 0 < w → ((bs : List ℕ) → worthOf f bs ≡ value o bs) → ((v : ℕ) → v < 256 ^ w → At (at + w) (settle (st σ f w w v (at + w) z c p)) (k v (at + w))) → At at (quiet (opened place σ f w (on g at z c p))) (furtherAt place at o w k)
+  unfolding furtherAt within opened
   number-at place f w o k pos worths go = cond-at (leb (at + w) limit) (λ _. awaiting running pos worths go) (λ _. refuse-at 2 place (on g at z c p))
 
   opaque-at : (h : Hidden) (k : ℕ → Layout Head) → At (at + 32) (settle (st σ 4 32 32 0 (at + 32) z c p)) (k (at + 32)) → At at (quiet (opened at σ 4 32 (on g at z c p))) (opaqueAt at h 32 k)
@@ -78,7 +78,7 @@ module _ (σ : ℕ) (running : σ < 25) (at : ℕ) (z : Sizes) (c : Counts) (p :
   abbrev Counts-on : (ℕ → ℕ → Layout Head) → Type 0
   Counts-on k = (f w n at′ : ℕ) → at < at′ → At at′ (compactSettled σ at n (st σ f w w n at′ z c p)) (k n at′)
 
-  further-at : (g : Field) (w : ℕ) (k : ℕ → ℕ → Layout Head) → 0 < w → Counts-on k → At (at + 1) (quiet (opened at σ 3 w (on g (at + 1) z c p))) (numberAt at (at + 1) little w λ n at′. cond (leb (least w) n) (k n at′) (refuse 3 at))
+  further-at : (g : Field) (w : ℕ) (k : ℕ → ℕ → Layout Head) → 0 < w → Counts-on k → At (at + 1) (quiet (opened at σ 3 w (on g (at + 1) z c p))) (furtherAt at (at + 1) little w λ n at′. cond (leb (least w) n) (k n at′) (refuse 3 at))
   unfolding settleBy furtherSettled worthOf
   further-at g w k pos go =
       number-at σ running g (at + 1) z c p at 3 w little _ pos (λ _. refl) λ n _.
@@ -90,7 +90,7 @@ module _ (σ : ℕ) (running : σ < 25) (at : ℕ) (z : Sizes) (c : Counts) (p :
   unfolding compactAt settleBy firstSettled worthOf
   compact-at g k go =
       number-at σ running g at z c p at 2 1 little _ (omega arith) (λ _. refl) λ first _.
-      subst (λ (start : ℕ). At (at + 1) (cond (leb first 252) (compactSettled σ start first (st σ 2 1 1 first (at + 1) z c p)) (quiet (opened start σ 3 (announced first) (st σ 2 1 1 first (at + 1) z c p)))) (cond (leb first 252) (k first (at + 1)) (numberAt at (at + 1) little (announced first) λ n at′. cond (leb (least (announced first)) n) (k n at′) (refuse 3 at)))) (sym (back-one at))
+      subst (λ (start : ℕ). At (at + 1) (cond (leb first 252) (compactSettled σ start first (st σ 2 1 1 first (at + 1) z c p)) (quiet (opened start σ 3 (announced first) (st σ 2 1 1 first (at + 1) z c p)))) (cond (leb first 252) (k first (at + 1)) (furtherAt at (at + 1) little (announced first) λ n at′. cond (leb (least (announced first)) n) (k n at′) (refuse 3 at)))) (sym (back-one at))
       (cond-settled (leb first 252) (λ _. go 2 1 first (at + 1) (omega arith)) (λ _. further-at (field σ 2 1 1 first) (announced first) k (announced-pos first) go))
 
   -- a body: what its entry is, what its length leaves behind, and what follows

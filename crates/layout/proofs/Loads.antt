@@ -15,7 +15,7 @@ use lib.ListN.{length, replicate, drop, getD}
 use Rattle.layout.specs.Number.{little, value}
 use Rattle.layout.specs.Layout.{Layout, Answer, finished, more, refused, accept, input, output, scriptBody, assetPart, run, reading, hides}
 use Rattle.layout.specs.Transaction.{Head, transaction, entry, assetPrefix, seen, allOnes, flagBit, vout, flags}
-use Rattle.layout.specs.Transaction.{within, numberAt, opaqueAt, compactAt, countAt, bodyAt, valueAt, prefixedAt, each}
+use Rattle.layout.specs.Transaction.{within, furtherAt, numberAt, opaqueAt, compactAt, countAt, bodyAt, valueAt, prefixedAt, each}
 use Rattle.layout.specs.Transaction.{issuanceAt, inputAt, outputAt, itemAt, stackAt, inputWitnessAt, outputWitnessAt}
 use Rattle.layout.specs.Outcome.{Sizes, Tables, Outcome, zeros, laid, readingOf, partial, atOnce, strict, bears, roomOf}
 
@@ -147,7 +147,7 @@ stops n p taken = piece (refused n p) taken
 -- Where this is unfolded, readings compute.
 computes : Unit {0}
 unfolding hex hidden inputs0 value run laid
-    within numberAt opaqueAt compactAt countAt bodyAt valueAt prefixedAt each allOnes flagBit vout flags
+    within furtherAt opaqueAt compactAt countAt bodyAt valueAt prefixedAt each allOnes flagBit vout flags
     issuanceAt inputAt outputAt itemAt stackAt inputWitnessAt outputWitnessAt transaction
 computes = tt
 
@@ -570,7 +570,7 @@ edges = refl
 
 -- A number of 4 bytes; a body, which gives its length; a value, which gives its prefix; others give the position behind them.
 abbrev fieldAt : ℕ → List ℕ → Given
-fieldAt at xs = alone (numberAt at at little 4 λ n _. accept n) xs
+fieldAt at xs = alone (numberAt at little 4 λ n _. accept n) xs
 
 abbrev scriptAt : ℕ → List ℕ → Given
 scriptAt at xs = alone (bodyAt at scriptBody (λ p n. entry input 0 3 (p ∷ n ∷ [])) λ n _. accept n) xs
@@ -600,7 +600,7 @@ itemsAt left at xs = alone (stackAt left 0 at (λ n. entry input 0 17 (0 ∷ n �
 
 -- an issuance, and behind it a field of 1 byte
 abbrev issuanceThenAt : ℕ → List ℕ → Given
-issuanceThenAt at xs = alone (issuanceAt 0 at λ end. numberAt end end little 1 λ n _. accept n) xs
+issuanceThenAt at xs = alone (issuanceAt 0 at λ end. numberAt end little 1 λ n _. accept n) xs
 
 limits : AsTold (
     -- a field that ends at 4,000,000 passes; one past it, 2 at its start, before any byte of it

@@ -9,7 +9,7 @@ use lib.ListN.{length, getD, take, drop}
 use borrow.Author.Tests.{leb-true, leb-false, eqb-true, eqb-false}
 use Rattle.layout.specs.Number.{Order, little, big, value, Bytes}
 use Rattle.layout.specs.Layout.{Layout, number, opaque, enter, refuse, accept, Answer, finished, more, refused, Reading, reading, behind, noted, Entry, Table, input, output, item, Hidden, txid, blindingNonce, entropy, assetPart, noncePart, commitmentPart, scriptBody, proofBody, itemBody, run}
-use Rattle.layout.specs.Transaction.{Head, Room, limit, entry, within, numberAt, opaqueAt, announced, least, compactAt, countAt, bodyAt, valueAt, prefixedAt, each, alone, allOnes, flagBit, vout, flags, Seen, seen, issuanceAt, inputAt, outputAt, itemAt, stackAt, inputWitnessAt, outputWitnessAt, transaction}
+use Rattle.layout.specs.Transaction.{Head, Room, limit, entry, within, furtherAt, numberAt, opaqueAt, announced, least, compactAt, countAt, bodyAt, valueAt, prefixedAt, each, alone, allOnes, flagBit, vout, flags, Seen, seen, issuanceAt, inputAt, outputAt, itemAt, stackAt, inputWitnessAt, outputWitnessAt, transaction}
 use Rattle.layout.specs.Outcome.{width}
 use native.Mathlib.Nat.{add-assoc, add-zero}
 use Rattle.layout.proofs.Reading.{by-cases, fieldRun, field-case, finished-not-more}
@@ -80,8 +80,8 @@ module _ {b : ℕ} {r : Rows} where
   unfolding within
   within-sound place at end l f = cond-sound (leb end limit) (λ t. f (leb-true end limit t)) (λ _. stop)
 
-  number-sound : (place at : ℕ) (o : Order) (w : ℕ) (k : ℕ → ℕ → Layout Head) → ((v : ℕ) → v < 256 ^ w → at + w ≤ limit → Sound b r (at + w) (k v (at + w))) → Sound b r at (numberAt place at o w k)
-  unfolding numberAt
+  number-sound : (place at : ℕ) (o : Order) (w : ℕ) (k : ℕ → ℕ → Layout Head) → ((v : ℕ) → v < 256 ^ w → at + w ≤ limit → Sound b r (at + w) (k v (at + w))) → Sound b r at (furtherAt place at o w k)
+  unfolding furtherAt
   number-sound place at o w k f = within-sound place at (at + w) _ λ h. field h λ v small. f v small h
 
   opaque-sound : (at : ℕ) (h : Hidden) (w : ℕ) (k : ℕ → Layout Head) → (at + w ≤ limit → Sound b r (at + w) (k (at + w))) → Sound b r at (opaqueAt at h w k)

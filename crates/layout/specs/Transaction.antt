@@ -1,6 +1,6 @@
 -- Document 01's layout of a transaction. Each part of it starts at a position and hands on the position behind it.
 use Prim.Native.Nat.{ℕ, zero, suc, _+_, _-_, _*_, _/_, _%_, _^_}
-use mathlib.Core.Bool.{Bool, true, cond, _&&_, _||_}
+use mathlib.Core.Bool.{Bool, true, false, cond, _&&_, _||_}
 use mathlib.Core.List.{List, [], _∷_}
 use lib.Dec.{leb, eqb}
 use Rattle.layout.specs.Number.{Order, little, big}
@@ -46,8 +46,12 @@ module _ {A : Type 0} where
   unfoldable pub within : ℕ → ℕ → Layout A → Layout A
   within place end l = cond (leb end limit) l (refuse 2 place)
 
-  unfoldable pub numberAt : ℕ → ℕ → Order → ℕ → (ℕ → ℕ → Layout A) → Layout A
-  numberAt place at o w k = within place (at + w) ▸ number o w λ v. k v (at + w)
+  -- further bytes of a field that has its place at its own start
+  unfoldable pub furtherAt : ℕ → ℕ → Order → ℕ → (ℕ → ℕ → Layout A) → Layout A
+  furtherAt start at o w k = within start (at + w) ▸ number o w λ v. k v (at + w)
+
+  abbrev pub numberAt : ℕ → Order → ℕ → (ℕ → ℕ → Layout A) → Layout A
+  numberAt at o w k = furtherAt at at o w k
 
   unfoldable pub opaqueAt : ℕ → Hidden → ℕ → (ℕ → Layout A) → Layout A
   opaqueAt at h w k = within at (at + w) ▸ opaque h w ▸ k (at + w)
@@ -55,9 +59,9 @@ module _ {A : Type 0} where
   -- Count or length: first byte 0 to 252 is itself; others announce further bytes. 3: not in shortest form.
   unfoldable pub compactAt : ℕ → (ℕ → ℕ → Layout A) → Layout A
   compactAt at k =
-      numberAt at at little 1 λ first at′.
+      numberAt at little 1 λ first at′.
       cond (leb first 252) (k first at′) ▸
-      numberAt at at′ little (announced first) λ n at″.
+      furtherAt at at′ little (announced first) λ n at″.
       cond (leb (least (announced first)) n) (k n at″) ▸
       refuse 3 at
 
@@ -79,11 +83,11 @@ module _ {A : Type 0} where
   -- Value: prefix 0 null; 1 and a big-endian u64; 8 or 9 and 32 bytes. 5: prefix not listed.
   unfoldable pub valueAt : ℕ → (ℕ → ℕ → Entry) → (ℕ → ℕ → Entry) → (ℕ → ℕ → Layout A) → Layout A
   valueAt at note amount k =
-      numberAt at at little 1 λ prefix at′.
+      numberAt at little 1 λ prefix at′.
       enter (note prefix at) ▸
       cond (eqb prefix 0) (k prefix at′) ▸
       cond (eqb prefix 1)
-      (numberAt at′ at′ big 8 λ v at″.
+      (numberAt at′ big 8 λ v at″.
       enter (amount (v / 2 ^ 32) (v % 2 ^ 32)) ▸
       k prefix at″) ▸
       cond (eqb prefix 8 || eqb prefix 9) (opaqueAt at′ commitmentPart 32 (k prefix)) ▸
@@ -92,7 +96,7 @@ module _ {A : Type 0} where
   -- Asset: prefix 0 null; 1, 10 or 11 and 32 bytes. Nonce: prefix 0 null; 1, 2 or 3 and 32 bytes.
   unfoldable pub prefixedAt : ℕ → Hidden → (ℕ → Bool) → (ℕ → ℕ → Entry) → (ℕ → Layout A) → Layout A
   prefixedAt at body listed note k =
-      numberAt at at little 1 λ prefix at′.
+      numberAt at little 1 λ prefix at′.
       enter (note prefix at) ▸
       cond (eqb prefix 0) (k at′) ▸
       cond (listed prefix) (opaqueAt at′ body 32 k) ▸
@@ -150,10 +154,10 @@ module _ {A : Type 0} where
   inputAt i at k =
       opaqueAt at txid 32 λ at₁.
       enter (entry input i 0 (at ∷ [])) ▸
-      numberAt at₁ at₁ little 4 λ raw at₂.
+      numberAt at₁ little 4 λ raw at₂.
       enter (entry input i 1 (vout raw ∷ flags raw ∷ [])) ▸
       bodyAt at₂ scriptBody (λ p n. entry input i 3 (p ∷ n ∷ [])) λ _ at₃.
-      numberAt at₃ at₃ little 4 λ sequence at₄.
+      numberAt at₃ little 4 λ sequence at₄.
       enter (entry input i 5 (sequence ∷ [])) ▸
       cond (eqb (flagBit 31 raw) 1) (issuanceAt i at₄ k) (k at₄)
 
@@ -195,13 +199,13 @@ module _ {A : Type 0} where
 -- output's. The flag byte is judged after the locktime. 7: witness flag above 1. 8: flag 1, all witnesses empty.
 unfoldable pub transaction : Room → Layout Head
 transaction room =
-    numberAt 0 0 little 4 λ version at₁.
-    numberAt at₁ at₁ little 1 λ flag at₂.
+    numberAt 0 little 4 λ version at₁.
+    numberAt at₁ little 1 λ flag at₂.
     countAt at₂ (room .inputs) λ ins at₃.
     each (alone inputAt) ins 0 tt at₃ λ _ at₄.
     countAt at₄ (room .outputs) λ outs at₅.
     each (alone outputAt) outs 0 tt at₅ λ _ at₆.
-    numberAt at₆ at₆ little 4 λ locktime at₇.
+    numberAt at₆ little 4 λ locktime at₇.
     let head : ℕ → ℕ → Head = λ n at. record { version = version; flag = flag; inputs = ins; outputs = outs; items = n; locktime = locktime; bytes = at } in
     cond (eqb flag 0) (accept (head 0 at₇)) ▸
     cond (eqb flag 1)
