@@ -23,7 +23,7 @@ use Rattle.decoders.specs.declared.Spot.{Spot}
 use Rattle.decoders.specs.declared.Entered.{Entered}
 use Rattle.decoders.specs.declared.Settled.{Settled}
 use Rattle.decoders.specs.Machine as machine-specs
-use Rattle.decoders.specs.Machine.{State, field, worth, gather, enterBy, Machine, machine, entering, step, fed, answerOf, headOf, settle, quiet, settled}
+use Rattle.decoders.specs.Machine.{OPAQUE, BIG, State, field, worth, gather, enterBy, Machine, machine, entering, step, fed, answerOf, headOf, settle, quiet, settled}
 
 -- ---- a fold
 
@@ -49,7 +49,7 @@ st stage form width have v taken z c p = record { field = field stage form width
 
 -- what bytes are worth in a form
 unfoldable pub worthOf : ℕ → List ℕ → ℕ
-worthOf form bs = cond (eqb form 4) 0 (value (cond (eqb form 1) big little) bs)
+worthOf form bs = cond (eqb form OPAQUE) 0 (value (cond (eqb form BIG) big little) bs)
 
 one-byte : (o : Order) (b : ℕ) → value o (b ∷ []) ≡ b
 unfolding value
@@ -59,9 +59,9 @@ one-byte big b = omega arith
 worth-snoc : (form : ℕ) (bs : List ℕ) (b : ℕ) → worthOf form (bs ++ (b ∷ [])) ≡ worth form (worthOf form bs) (length bs) b
 unfolding worthOf worth joined
 worth-snoc form bs b =
-    by-cases (eqb form 4)
+    by-cases (eqb form OPAQUE)
     (λ e. rw e)
-    (λ e. by-cases (eqb form 1)
+    (λ e. by-cases (eqb form BIG)
     (λ e′. rw (e, e′) (value-append big bs (b ∷ []) ∙ ap (λ (v : ℕ). value big bs * 256 ^ 1 + v) (one-byte big b)))
     (λ e′. rw (e, e′) (value-append little bs (b ∷ []) ∙ ap (λ (v : ℕ). value little bs + v) (ap (λ (v : ℕ). 256 ^ length bs * v) (one-byte little b) ∙ mul-comm (256 ^ length bs) b))))
 
@@ -113,7 +113,7 @@ pub data At : ℕ → Settled → Layout Head → Type 0 where
   refusing : {at : ℕ} {s : State} {n p : ℕ} → 25 ≤ s .field .stage → s .taken ≡ at → answerOf s ≡ refused n p → At at (quiet s) (refuse n p)
   ending : {at : ℕ} {s : State} {h : Head} → 25 ≤ s .field .stage → s .taken ≡ at → answerOf s ≡ Answer.finished h → At at (quiet s) (accept h)
   awaiting : {σ f w at : ℕ} {z : Sizes} {c : Counts} {p : Spot} {o : Order} {k : ℕ → Layout Head} → σ < 25 → 0 < w → ((bs : List ℕ) → worthOf f bs ≡ value o bs) → ((v : ℕ) → v < 256 ^ w → At (at + w) (settle (st σ f w w v (at + w) z c p)) (k v)) → At at (quiet (st σ f w 0 0 at z c p)) (number o w k)
-  passing : {σ w at : ℕ} {z : Sizes} {c : Counts} {p : Spot} {h : Hidden} {l : Layout Head} → σ < 25 → 0 < w → At (at + w) (settle (st σ 4 w w 0 (at + w) z c p)) l → At at (quiet (st σ 4 w 0 0 at z c p)) (opaque h w l)
+  passing : {σ w at : ℕ} {z : Sizes} {c : Counts} {p : Spot} {h : Hidden} {l : Layout Head} → σ < 25 → 0 < w → At (at + w) (settle (st σ OPAQUE w w 0 (at + w) z c p)) l → At at (quiet (st σ OPAQUE w 0 0 at z c p)) (opaque h w l)
   nothing : {at : ℕ} {s : State} {h : Hidden} {l : Layout Head} → At at (quiet s) l → At at (quiet s) (opaque h 0 l)
   enters : {at : ℕ} {s : State} {e : Entered} {en : Entry} {l : Layout Head} → ((t : Tables) → enterBy (e .table) e t ≡ lay en t) → At at (quiet s) l → At at (settled s e) (enter en l)
 
@@ -126,7 +126,7 @@ pub record Same (m : Machine) (at : ℕ) (t : Tables) (r : Reading Head) : Type 
 
 worth-none : (f : ℕ) → worthOf f [] ≡ 0
 unfolding worthOf value
-worth-none f = by-cases (eqb f 4) (λ e. rw e) (λ e. by-cases (eqb f 1) (λ e′. rw (e, e′)) (λ e′. rw (e, e′)))
+worth-none f = by-cases (eqb f OPAQUE) (λ e. rw e) (λ e. by-cases (eqb f BIG) (λ e′. rw (e, e′)) (λ e′. rw (e, e′)))
 
 running-more : (σ f w have v at : ℕ) (z : Sizes) (c : Counts) (p : Spot) → σ < 25 → answerOf (st σ f w have v at z c p) ≡ more
 unfolding answerOf
@@ -149,7 +149,7 @@ field-same σ f w at z c p t xs r running pos go =
     start : st σ f w 0 0 at z c p ≡ partly σ f w at z c p t running []
     start = let e = sym (worth-none f) in let a : at ≡ at + 0 = omega arith in λ i. st σ f w 0 (e i) (a i) z c p
 
-worth-opaque : (bs : List ℕ) → worthOf 4 bs ≡ 0
+worth-opaque : (bs : List ℕ) → worthOf OPAQUE bs ≡ 0
 unfolding worthOf
 worth-opaque bs = refl
 
@@ -169,8 +169,8 @@ at-run (awaiting {σ = σ} {f = f} {w = w} {at = at} {z = z} {c = c} {p = p} {o 
     subst (λ (v : ℕ). Same (fed (entering (settle (st σ f w w v (at + w) z c p)) t) (drop w xs)) (at + w) t (run (k (value o (take w xs))) (drop w xs))) (sym (worths (take w xs)))
     (at-run (go (value o (take w xs)) (value-small o w xs q)) t (drop w xs) (bytes-drop w xs q))
 at-run (passing {σ = σ} {w = w} {at = at} {z = z} {c = c} {p = p} {l = l} running pos go) t xs q =
-    field-same σ 4 w at z c p t xs (run l (drop w xs)) running pos λ there.
-    subst (λ (v : ℕ). Same (fed (entering (settle (st σ 4 w w v (at + w) z c p)) t) (drop w xs)) (at + w) t (run l (drop w xs))) (sym (worth-opaque (take w xs)))
+    field-same σ OPAQUE w at z c p t xs (run l (drop w xs)) running pos λ there.
+    subst (λ (v : ℕ). Same (fed (entering (settle (st σ OPAQUE w w v (at + w) z c p)) t) (drop w xs)) (at + w) t (run l (drop w xs))) (sym (worth-opaque (take w xs)))
     (at-run go t (drop w xs) (bytes-drop w xs q))
 at-run {at} (nothing {s = s} {l = l} d) t xs q = subst (λ (r : Reading Head). Same (fed (machine s t) xs) at t r) (opaque-none (run l xs) xs) (at-run d t xs q)
 at-run {at} (enters {s = s} {e = e} {en = en} {l = l} same d) t xs q =

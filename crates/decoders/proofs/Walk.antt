@@ -23,7 +23,7 @@ use Rattle.decoders.specs.declared.Spot.{Spot}
 use Rattle.decoders.specs.declared.Entered.{Entered}
 use Rattle.decoders.specs.declared.Settled.{Settled}
 use Rattle.decoders.specs.Machine as m
-use Rattle.decoders.specs.Machine.{State, field, settled, quiet, settle, settleBy, answerOf, headOf, enterBy, opened, compactSettled, lengthSettled, firstSettled, furtherSettled, bodyEnds, bodyEntered, isProof, emptied, littleSettled, bigSettled, opaqueSettled, valueSettled, tokenSettled, nextInput, nextOutput, nextInputWitness, nextOutputWitness, nextScriptItem, nextPeginItem, witnessesEnd, locktimeSettled, fresh}
+use Rattle.decoders.specs.Machine.{FURTHER, FIRST, OPAQUE, LITTLE, BIG, State, field, settled, quiet, settle, settleBy, answerOf, headOf, enterBy, opened, compactSettled, lengthSettled, firstSettled, furtherSettled, bodyEnds, bodyEntered, isProof, emptied, littleSettled, bigSettled, opaqueSettled, valueSettled, tokenSettled, nextInput, nextOutput, nextInputWitness, nextOutputWitness, nextScriptItem, nextPeginItem, witnessesEnd, locktimeSettled, fresh}
 use Rattle.decoders.proofs.Simulation.{st, worthOf, At, refusing, ending, awaiting, passing, nothing, enters}
 
 -- a state whose field is spent
@@ -59,7 +59,7 @@ module _ (σ : ℕ) (running : σ < 25) (g : Field) (at : ℕ) (z : Sizes) (c : 
   unfolding furtherAt within opened
   number-at place f w o k pos worths go = cond-at (leb (at + w) limit) (λ _. awaiting running pos worths go) (λ _. refuse-at 2 place (on g at z c p))
 
-  opaque-at : (h : Hidden) (k : ℕ → Layout Head) → At (at + 32) (settle (st σ 4 32 32 0 (at + 32) z c p)) (k (at + 32)) → At at (quiet (opened at σ 4 32 (on g at z c p))) (opaqueAt at h 32 k)
+  opaque-at : (h : Hidden) (k : ℕ → Layout Head) → At (at + 32) (settle (st σ OPAQUE 32 32 0 (at + 32) z c p)) (k (at + 32)) → At at (quiet (opened at σ OPAQUE 32 (on g at z c p))) (opaqueAt at h 32 k)
   unfolding opaqueAt within opened
   opaque-at h k go = cond-at (leb (at + 32) limit) (λ _. passing running (omega arith) go) (λ _. refuse-at 2 at (on g at z c p))
 
@@ -78,20 +78,20 @@ module _ (σ : ℕ) (running : σ < 25) (at : ℕ) (z : Sizes) (c : Counts) (p :
   abbrev Counts-on : (ℕ → ℕ → Layout Head) → Type 0
   Counts-on k = (f w n at′ : ℕ) → at < at′ → At at′ (compactSettled σ at n (st σ f w w n at′ z c p)) (k n at′)
 
-  further-at : (g : Field) (w : ℕ) (k : ℕ → ℕ → Layout Head) → 0 < w → Counts-on k → At (at + 1) (quiet (opened at σ 3 w (on g (at + 1) z c p))) (furtherAt at (at + 1) little w λ n at′. cond (leb (least w) n) (k n at′) (refuse 3 at))
+  further-at : (g : Field) (w : ℕ) (k : ℕ → ℕ → Layout Head) → 0 < w → Counts-on k → At (at + 1) (quiet (opened at σ FURTHER w (on g (at + 1) z c p))) (furtherAt at (at + 1) little w λ n at′. cond (leb (least w) n) (k n at′) (refuse 3 at))
   unfolding settleBy furtherSettled worthOf
   further-at g w k pos go =
-      number-at σ running g (at + 1) z c p at 3 w little _ pos (λ _. refl) λ n _.
+      number-at σ running g (at + 1) z c p at FURTHER w little _ pos (λ _. refl) λ n _.
       let back : at + 1 + w - w - 1 ≡ at = omega arith in
-      subst (λ (start : ℕ). At (at + 1 + w) (cond (leb (least w) n) (compactSettled σ start n (st σ 3 w w n (at + 1 + w) z c p)) (quiet (m.refuse 3 start (st σ 3 w w n (at + 1 + w) z c p)))) (cond (leb (least w) n) (k n (at + 1 + w)) (refuse 3 at))) (sym back)
-      (cond-settled (leb (least w) n) (λ _. go 3 w n (at + 1 + w) (omega arith)) (λ _. refuse-at 3 at (st σ 3 w w n (at + 1 + w) z c p)))
+      subst (λ (start : ℕ). At (at + 1 + w) (cond (leb (least w) n) (compactSettled σ start n (st σ FURTHER w w n (at + 1 + w) z c p)) (quiet (m.refuse 3 start (st σ FURTHER w w n (at + 1 + w) z c p)))) (cond (leb (least w) n) (k n (at + 1 + w)) (refuse 3 at))) (sym back)
+      (cond-settled (leb (least w) n) (λ _. go FURTHER w n (at + 1 + w) (omega arith)) (λ _. refuse-at 3 at (st σ FURTHER w w n (at + 1 + w) z c p)))
 
-  compact-at : (g : Field) (k : ℕ → ℕ → Layout Head) → Counts-on k → At at (quiet (opened at σ 2 1 (on g at z c p))) (compactAt at k)
+  compact-at : (g : Field) (k : ℕ → ℕ → Layout Head) → Counts-on k → At at (quiet (opened at σ FIRST 1 (on g at z c p))) (compactAt at k)
   unfolding compactAt settleBy firstSettled worthOf
   compact-at g k go =
-      number-at σ running g at z c p at 2 1 little _ (omega arith) (λ _. refl) λ first _.
-      subst (λ (start : ℕ). At (at + 1) (cond (leb first 252) (compactSettled σ start first (st σ 2 1 1 first (at + 1) z c p)) (quiet (opened start σ 3 (announced first) (st σ 2 1 1 first (at + 1) z c p)))) (cond (leb first 252) (k first (at + 1)) (furtherAt at (at + 1) little (announced first) λ n at′. cond (leb (least (announced first)) n) (k n at′) (refuse 3 at)))) (sym (back-one at))
-      (cond-settled (leb first 252) (λ _. go 2 1 first (at + 1) (omega arith)) (λ _. further-at (field σ 2 1 1 first) (announced first) k (announced-pos first) go))
+      number-at σ running g at z c p at FIRST 1 little _ (omega arith) (λ _. refl) λ first _.
+      subst (λ (start : ℕ). At (at + 1) (cond (leb first 252) (compactSettled σ start first (st σ FIRST 1 1 first (at + 1) z c p)) (quiet (opened start σ FURTHER (announced first) (st σ FIRST 1 1 first (at + 1) z c p)))) (cond (leb first 252) (k first (at + 1)) (furtherAt at (at + 1) little (announced first) λ n at′. cond (leb (least (announced first)) n) (k n at′) (refuse 3 at)))) (sym (back-one at))
+      (cond-settled (leb first 252) (λ _. go FIRST 1 first (at + 1) (omega arith)) (λ _. further-at (field σ FIRST 1 1 first) (announced first) k (announced-pos first) go))
 
   -- a body: what its entry is, what its length leaves behind, and what follows
   pub record Body (note : ℕ → ℕ → Entry) (after : ℕ → Spot) (k : ℕ → ℕ → Layout Head) : Type 0 where
@@ -103,23 +103,23 @@ module _ (σ : ℕ) (running : σ < 25) (at : ℕ) (z : Sizes) (c : Counts) (p :
 
   module _ (h : Hidden) (note : ℕ → ℕ → Entry) (after : ℕ → Spot) (k : ℕ → ℕ → Layout Head) (b : Body note after k) where
     -- behind the length: nothing, or the body's bytes
-    rest-at : (f w n at′ : ℕ) → at < at′ → At at′ (quiet (cond (eqb n 0) (bodyEnds σ (st σ f w w n at′ z c (after n))) (m.withField (field σ 4 n 0 0) (st σ f w w n at′ z c (after n))))) (opaque h n (k n (at′ + n)))
+    rest-at : (f w n at′ : ℕ) → at < at′ → At at′ (quiet (cond (eqb n 0) (bodyEnds σ (st σ f w w n at′ z c (after n))) (m.withField (field σ OPAQUE n 0 0) (st σ f w w n at′ z c (after n))))) (opaque h n (k n (at′ + n)))
     unfolding settleBy
     rest-at f w n at′ less =
         by-cases (eqb n 0)
         (λ e. rw e (subst (λ (j : ℕ). At at′ (quiet (bodyEnds σ (st σ f w w n at′ z c (after n)))) (opaque h j (k n (at′ + j)))) (sym (eqb-true n 0 e))
         (nothing (subst (λ (j : ℕ). At at′ (quiet (bodyEnds σ (st σ f w w n at′ z c (after n)))) (k n j)) (sym (add-zero at′)) (b .next (field σ f w w n) n at′ less)))))
         (λ e. rw e (passing running (not-zero n (eqb-false n 0 e))
-        (subst (λ (r : Settled). At (at′ + n) r (k n (at′ + n))) (sym (b .whole (st σ 4 n n 0 (at′ + n) z c (after n)))) (b .next (field σ 4 n n 0) n (at′ + n) (omega arith)))))
+        (subst (λ (r : Settled). At (at′ + n) r (k n (at′ + n))) (sym (b .whole (st σ OPAQUE n n 0 (at′ + n) z c (after n)))) (b .next (field σ OPAQUE n n 0) n (at′ + n) (omega arith)))))
 
     length-at : (f w n at′ : ℕ) → at < at′ → At at′ (lengthSettled σ at n (st σ f w w n at′ z c p)) (cond (leb (at′ + n) limit) (enter (note at′ n) (opaque h n (k n (at′ + n)))) (refuse 2 at))
     unfolding lengthSettled
     length-at f w n at′ less =
         cond-settled (leb (at′ + n) limit)
-        (λ _. enters (b .entered f w n at′) (subst (λ (s : State). At at′ (quiet (cond (eqb n 0) (bodyEnds σ s) (m.withField (field σ 4 n 0 0) s))) (opaque h n (k n (at′ + n)))) (sym (b .seen f w n at′)) (rest-at f w n at′ less)))
+        (λ _. enters (b .entered f w n at′) (subst (λ (s : State). At at′ (quiet (cond (eqb n 0) (bodyEnds σ s) (m.withField (field σ OPAQUE n 0 0) s))) (opaque h n (k n (at′ + n)))) (sym (b .seen f w n at′)) (rest-at f w n at′ less)))
         (λ _. refuse-at 2 at (st σ f w w n at′ z c p))
 
-    body-at : (g : Field) → At at (quiet (opened at σ 2 1 (on g at z c p))) (bodyAt at h note k)
+    body-at : (g : Field) → At at (quiet (opened at σ FIRST 1 (on g at z c p))) (bodyAt at h note k)
     unfolding bodyAt within
     body-at g =
         compact-at g _ λ f w n at′ less.
@@ -152,46 +152,46 @@ as-state {at} {l} e d = subst (λ (x : State). At at (quiet x) l) (sym e) d
 pub record Value (σ at : ℕ) (z : Sizes) (c : Counts) (p q : Spot) (note amount : ℕ → ℕ → Entry) (k : ℕ → ℕ → Layout Head) : Type 0 where
   pub null : ℕ → State
   pub entry : ℕ → Entered
-  pub prefix : (v : ℕ) → littleSettled σ (st σ 0 1 1 v (at + 1) z c p) ≡ settled (valueSettled (null v) (st σ 0 1 1 v (at + 1) z c q)) (entry v)
+  pub prefix : (v : ℕ) → littleSettled σ (st σ LITTLE 1 1 v (at + 1) z c p) ≡ settled (valueSettled (null v) (st σ LITTLE 1 1 v (at + 1) z c q)) (entry v)
   pub entered : (v : ℕ) (t : Tables) → enterBy (entry v .table) (entry v) t ≡ lay (note v at) t
   pub nulls : (v : ℕ) → eqb v 0 ≡ true → At (at + 1) (quiet (null v)) (k v (at + 1))
-  pub explicit : (v n at′ : ℕ) → at < at′ → eqb v 0 ≡ false → At at′ (bigSettled σ (st σ 1 8 8 n at′ z c q)) (enter (amount (n / 2 ^ 32) (n % 2 ^ 32)) (k v at′))
-  pub part : (v at′ : ℕ) → at < at′ → eqb v 0 ≡ false → At at′ (opaqueSettled σ (st σ 4 32 32 0 at′ z c q)) (k v at′)
+  pub explicit : (v n at′ : ℕ) → at < at′ → eqb v 0 ≡ false → At at′ (bigSettled σ (st σ BIG 8 8 n at′ z c q)) (enter (amount (n / 2 ^ 32) (n % 2 ^ 32)) (k v at′))
+  pub part : (v at′ : ℕ) → at < at′ → eqb v 0 ≡ false → At at′ (opaqueSettled σ (st σ OPAQUE 32 32 0 at′ z c q)) (k v at′)
 
-value-at : (σ : ℕ) → σ < 25 → (g : Field) (at : ℕ) (z : Sizes) (c : Counts) (p q : Spot) (note amount : ℕ → ℕ → Entry) (k : ℕ → ℕ → Layout Head) → Value σ at z c p q note amount k → At at (quiet (opened at σ 0 1 (on g at z c p))) (valueAt at note amount k)
+value-at : (σ : ℕ) → σ < 25 → (g : Field) (at : ℕ) (z : Sizes) (c : Counts) (p q : Spot) (note amount : ℕ → ℕ → Entry) (k : ℕ → ℕ → Layout Head) → Value σ at z c p q note amount k → At at (quiet (opened at σ LITTLE 1 (on g at z c p))) (valueAt at note amount k)
 unfolding valueAt settleBy valueSettled worthOf
 value-at σ running g at z c p q note amount k b =
-    number-at σ running g at z c p at 0 1 little _ (omega arith) (λ _. refl) λ v _.
+    number-at σ running g at z c p at LITTLE 1 little _ (omega arith) (λ _. refl) λ v _.
     as-settled (b .prefix v)
     (enters (b .entered v)
-    (as-state (ap (λ (place : ℕ). cond (eqb v 0) (b .null v) (cond (eqb v 1) (opened (at + 1) σ 1 8 (st σ 0 1 1 v (at + 1) z c q)) (cond (eqb v 8 || eqb v 9) (m.opaque σ (st σ 0 1 1 v (at + 1) z c q)) (m.refuse 5 place (st σ 0 1 1 v (at + 1) z c q))))) (back-one at))
+    (as-state (ap (λ (place : ℕ). cond (eqb v 0) (b .null v) (cond (eqb v 1) (opened (at + 1) σ BIG 8 (st σ LITTLE 1 1 v (at + 1) z c q)) (cond (eqb v 8 || eqb v 9) (m.opaque σ (st σ LITTLE 1 1 v (at + 1) z c q)) (m.refuse 5 place (st σ LITTLE 1 1 v (at + 1) z c q))))) (back-one at))
     (cond-at (eqb v 0) (b .nulls v) λ e₀.
     cond-at (eqb v 1)
-    (λ e. number-at σ running (field σ 0 1 1 v) (at + 1) z c q (at + 1) 1 8 big _ (omega arith) (λ _. refl) λ n _. b .explicit v n (at + 1 + 8) (omega arith) e₀)
+    (λ e. number-at σ running (field σ LITTLE 1 1 v) (at + 1) z c q (at + 1) BIG 8 big _ (omega arith) (λ _. refl) λ n _. b .explicit v n (at + 1 + 8) (omega arith) e₀)
     λ e₁.
     cond-at (eqb v 8 || eqb v 9)
-    (λ e. opaque-at σ running (field σ 0 1 1 v) (at + 1) z c q commitmentPart (k v) (b .part v (at + 1 + 32) (omega arith) e₀))
-    (λ _. refuse-at 5 at (st σ 0 1 1 v (at + 1) z c q)))))
+    (λ e. opaque-at σ running (field σ LITTLE 1 1 v) (at + 1) z c q commitmentPart (k v) (b .part v (at + 1 + 32) (omega arith) e₀))
+    (λ _. refuse-at 5 at (st σ LITTLE 1 1 v (at + 1) z c q)))))
 
 pub record Token (σ at : ℕ) (z : Sizes) (c : Counts) (p : Spot) (listed : ℕ → Bool) (note : ℕ → ℕ → Entry) (k : ℕ → Layout Head) : Type 0 where
   pub null : ℕ → State
   pub entry : ℕ → Entered
-  pub prefix : (v : ℕ) → littleSettled σ (st σ 0 1 1 v (at + 1) z c p) ≡ settled (tokenSettled listed (null v) (st σ 0 1 1 v (at + 1) z c p)) (entry v)
+  pub prefix : (v : ℕ) → littleSettled σ (st σ LITTLE 1 1 v (at + 1) z c p) ≡ settled (tokenSettled listed (null v) (st σ LITTLE 1 1 v (at + 1) z c p)) (entry v)
   pub entered : (v : ℕ) (t : Tables) → enterBy (entry v .table) (entry v) t ≡ lay (note v at) t
   pub nulls : (v : ℕ) → At (at + 1) (quiet (null v)) (k (at + 1))
-  pub part : (at′ : ℕ) → at < at′ → At at′ (opaqueSettled σ (st σ 4 32 32 0 at′ z c p)) (k at′)
+  pub part : (at′ : ℕ) → at < at′ → At at′ (opaqueSettled σ (st σ OPAQUE 32 32 0 at′ z c p)) (k at′)
 
-token-at : (σ : ℕ) → σ < 25 → (g : Field) (at : ℕ) (z : Sizes) (c : Counts) (p : Spot) (h : Hidden) (listed : ℕ → Bool) (note : ℕ → ℕ → Entry) (k : ℕ → Layout Head) → Token σ at z c p listed note k → At at (quiet (opened at σ 0 1 (on g at z c p))) (prefixedAt at h listed note k)
+token-at : (σ : ℕ) → σ < 25 → (g : Field) (at : ℕ) (z : Sizes) (c : Counts) (p : Spot) (h : Hidden) (listed : ℕ → Bool) (note : ℕ → ℕ → Entry) (k : ℕ → Layout Head) → Token σ at z c p listed note k → At at (quiet (opened at σ LITTLE 1 (on g at z c p))) (prefixedAt at h listed note k)
 unfolding prefixedAt settleBy tokenSettled worthOf
 token-at σ running g at z c p h listed note k b =
-    number-at σ running g at z c p at 0 1 little _ (omega arith) (λ _. refl) λ v _.
+    number-at σ running g at z c p at LITTLE 1 little _ (omega arith) (λ _. refl) λ v _.
     as-settled (b .prefix v)
     (enters (b .entered v)
-    (as-state (ap (λ (place : ℕ). cond (eqb v 0) (b .null v) (cond (listed v) (m.opaque σ (st σ 0 1 1 v (at + 1) z c p)) (m.refuse 5 place (st σ 0 1 1 v (at + 1) z c p)))) (back-one at))
+    (as-state (ap (λ (place : ℕ). cond (eqb v 0) (b .null v) (cond (listed v) (m.opaque σ (st σ LITTLE 1 1 v (at + 1) z c p)) (m.refuse 5 place (st σ LITTLE 1 1 v (at + 1) z c p)))) (back-one at))
     (cond-at (eqb v 0) (λ _. b .nulls v) λ e₀.
     cond-at (listed v)
-    (λ e. opaque-at σ running (field σ 0 1 1 v) (at + 1) z c p h k (b .part (at + 1 + 32) (omega arith)))
-    (λ _. refuse-at 5 at (st σ 0 1 1 v (at + 1) z c p)))))
+    (λ e. opaque-at σ running (field σ LITTLE 1 1 v) (at + 1) z c p h k (b .part (at + 1 + 32) (omega arith)))
+    (λ _. refuse-at 5 at (st σ LITTLE 1 1 v (at + 1) z c p)))))
 
 -- ---- inputs
 
@@ -212,19 +212,19 @@ module _ (z : Sizes) (c : Counts) (i l e : ℕ) where
   EndsInput at k = (g : Field) (s n at′ : ℕ) → at < at′ → At at′ (quiet (nextInput (m.further (on g at′ z c (sp i l s n e))))) (k at′)
 
   -- the keys, behind an amount of prefix v; 66 bytes lie between a null issuance's start and its end
-  keys-at : (g : Field) (at at₃ s v : ℕ) (k : ℕ → Layout Head) → at < at₃ → (eqb v 0 ≡ true → at₃ ≡ at + 65) → EndsInput at k → At at₃ (quiet (opened at₃ 10 0 1 (on g at₃ z c (sp i l s (asNumber (eqb v 0)) e)))) (valueAt at₃ (λ p _. entry input i 10 (p ∷ [])) (λ high low. entry input i 11 (high ∷ low ∷ [])) λ keys at₄. cond (eqb v 0 && eqb keys 0) (refuse 6 at) (k at₄))
+  keys-at : (g : Field) (at at₃ s v : ℕ) (k : ℕ → Layout Head) → at < at₃ → (eqb v 0 ≡ true → at₃ ≡ at + 65) → EndsInput at k → At at₃ (quiet (opened at₃ 10 LITTLE 1 (on g at₃ z c (sp i l s (asNumber (eqb v 0)) e)))) (valueAt at₃ (λ p _. entry input i 10 (p ∷ [])) (λ high low. entry input i 11 (high ∷ low ∷ [])) λ keys at₄. cond (eqb v 0 && eqb keys 0) (refuse 6 at) (k at₄))
   unfolding littleSettled bigSettled opaqueSettled
   keys-at g at at₃ s v k less start next =
       value-at 10 (lit< tt) g at₃ z c p p _ _ _
       (record {
-        null = λ w. cond (eqb (asNumber (eqb v 0)) 1) (m.refuse 6 (at₃ + 1 - 66) (st 10 0 1 1 w (at₃ + 1) z c p)) (nextInput (m.further (st 10 0 1 1 w (at₃ + 1) z c p)));
-        entry = λ w. m.input1 10 w (st 10 0 1 1 w (at₃ + 1) z c p);
+        null = λ w. cond (eqb (asNumber (eqb v 0)) 1) (m.refuse 6 (at₃ + 1 - 66) (st 10 LITTLE 1 1 w (at₃ + 1) z c p)) (nextInput (m.further (st 10 LITTLE 1 1 w (at₃ + 1) z c p)));
+        entry = λ w. m.input1 10 w (st 10 LITTLE 1 1 w (at₃ + 1) z c p);
         prefix = λ w. refl;
         entered = λ w t. refl;
         nulls = λ w e′.
             by-cases (eqb v 0)
-            (λ q. let back : at₃ + 1 - 66 ≡ at = omega (arith, start q) in rw (q, e′) (as-state (ap (λ (place : ℕ). m.refuse 6 place (st 10 0 1 1 w (at₃ + 1) z c (sp i l s 1 e))) back) (refuse-at 6 at (st 10 0 1 1 w (at₃ + 1) z c (sp i l s 1 e)))))
-            (λ q. rw q (next (field 10 0 1 1 w) s 0 (at₃ + 1) (omega arith)));
+            (λ q. let back : at₃ + 1 - 66 ≡ at = omega (arith, start q) in rw (q, e′) (as-state (ap (λ (place : ℕ). m.refuse 6 place (st 10 LITTLE 1 1 w (at₃ + 1) z c (sp i l s 1 e))) back) (refuse-at 6 at (st 10 LITTLE 1 1 w (at₃ + 1) z c (sp i l s 1 e)))))
+            (λ q. rw q (next (field 10 LITTLE 1 1 w) s 0 (at₃ + 1) (omega arith)));
         explicit = λ w n at′ less′ e′. enters (input-two i 11 (n / 2 ^ 32) (n % 2 ^ 32)) (not-null w e′ (next _ _ _ at′ (omega arith)));
         part = λ w at′ less′ e′. not-null w e′ (next _ _ _ at′ (omega arith));
       })
@@ -235,7 +235,7 @@ module _ (z : Sizes) (c : Counts) (i l e : ℕ) where
       not-null : {at′ : ℕ} {x : State} (w : ℕ) → eqb w 0 ≡ false → At at′ (quiet x) (k at′) → At at′ (quiet x) (cond (eqb v 0 && eqb w 0) (refuse 6 at) (k at′))
       not-null w e′ d = rw (e′, and-false (eqb v 0)) d
 
-  issuance-at : (g : Field) (at s n : ℕ) (k : ℕ → Layout Head) → EndsInput at k → At at (quiet (opened at 7 4 32 (on g at z c (sp i l s n e)))) (issuanceAt i at k)
+  issuance-at : (g : Field) (at s n : ℕ) (k : ℕ → Layout Head) → EndsInput at k → At at (quiet (opened at 7 OPAQUE 32 (on g at z c (sp i l s n e)))) (issuanceAt i at k)
   unfolding issuanceAt settleBy littleSettled bigSettled opaqueSettled
   issuance-at g at s n k next =
       opaque-at 7 (lit< tt) g at z c (sp i l s n e) blindingNonce _
@@ -243,27 +243,27 @@ module _ (z : Sizes) (c : Counts) (i l e : ℕ) where
       (opaque-at 8 (lit< tt) _ (at + 32) z c (sp i l s n e) entropy _
       (value-at 9 (lit< tt) _ (at + 32 + 32) z c (sp i l s n e) (sp i l s 0 e) _ _ _
       (record {
-        null = λ v. m.number 10 1 (m.setNull 1 (st 9 0 1 1 v (at + 32 + 32 + 1) z c (sp i l s n e)));
-        entry = λ v. m.input1 7 v (st 9 0 1 1 v (at + 32 + 32 + 1) z c (sp i l s n e));
+        null = λ v. m.number 10 1 (m.setNull 1 (st 9 LITTLE 1 1 v (at + 32 + 32 + 1) z c (sp i l s n e)));
+        entry = λ v. m.input1 7 v (st 9 LITTLE 1 1 v (at + 32 + 32 + 1) z c (sp i l s n e));
         prefix = λ v. refl;
         entered = λ v t. refl;
-        nulls = λ v q. keys v (field 9 0 1 1 v) (at + 32 + 32 + 1) 1 (omega arith) (λ _. omega arith) (ap asNumber q);
-        explicit = λ v m at′ less q. enters (input-two i 8 (m / 2 ^ 32) (m % 2 ^ 32)) (keys v (field 9 1 8 8 m) at′ 0 (omega arith) (λ q′. absurd (clash q q′)) (ap asNumber q));
-        part = λ v at′ less q. keys v (field 9 4 32 32 0) at′ 0 (omega arith) (λ q′. absurd (clash q q′)) (ap asNumber q);
+        nulls = λ v q. keys v (field 9 LITTLE 1 1 v) (at + 32 + 32 + 1) 1 (omega arith) (λ _. omega arith) (ap asNumber q);
+        explicit = λ v m at′ less q. enters (input-two i 8 (m / 2 ^ 32) (m % 2 ^ 32)) (keys v (field 9 BIG 8 8 m) at′ 0 (omega arith) (λ q′. absurd (clash q q′)) (ap asNumber q));
+        part = λ v at′ less q. keys v (field 9 OPAQUE 32 32 0) at′ 0 (omega arith) (λ q′. absurd (clash q q′)) (ap asNumber q);
       }))))
     where
       clash : {b : Bool} → b ≡ false → b ≡ true → ⊥
       clash q q′ = true≢false (sym q′ ∙ q)
 
-      keys : (v : ℕ) (h : Field) (at₃ u : ℕ) → at < at₃ → (eqb v 0 ≡ true → at₃ ≡ at + 65) → asNumber (eqb v 0) ≡ u → At at₃ (quiet (opened at₃ 10 0 1 (on h at₃ z c (sp i l s u e)))) (valueAt at₃ (λ p _. entry input i 10 (p ∷ [])) (λ high low. entry input i 11 (high ∷ low ∷ [])) λ w at₄. cond (eqb v 0 && eqb w 0) (refuse 6 at) (k at₄))
-      keys v h at₃ u less start q = as-state (ap (λ (u′ : ℕ). opened at₃ 10 0 1 (on h at₃ z c (sp i l s u′ e))) (sym q)) (keys-at h at at₃ s v k less start next)
+      keys : (v : ℕ) (h : Field) (at₃ u : ℕ) → at < at₃ → (eqb v 0 ≡ true → at₃ ≡ at + 65) → asNumber (eqb v 0) ≡ u → At at₃ (quiet (opened at₃ 10 LITTLE 1 (on h at₃ z c (sp i l s u e)))) (valueAt at₃ (λ p _. entry input i 10 (p ∷ [])) (λ high low. entry input i 11 (high ∷ low ∷ [])) λ w at₄. cond (eqb v 0 && eqb w 0) (refuse 6 at) (k at₄))
+      keys v h at₃ u less start q = as-state (ap (λ (u′ : ℕ). opened at₃ 10 LITTLE 1 (on h at₃ z c (sp i l s u′ e))) (sym q)) (keys-at h at at₃ s v k less start next)
 
-  input-at : (g : Field) (at s n : ℕ) (k : ℕ → Layout Head) → EndsInput at k → At at (quiet (opened at 3 4 32 (on g at z c (sp i l s n e)))) (inputAt i at k)
+  input-at : (g : Field) (at s n : ℕ) (k : ℕ → Layout Head) → EndsInput at k → At at (quiet (opened at 3 OPAQUE 32 (on g at z c (sp i l s n e)))) (inputAt i at k)
   unfolding inputAt settleBy littleSettled opaqueSettled compactSettled bodyEntered bodyEnds worthOf
   input-at g at s n k next =
       opaque-at 3 (lit< tt) g at z c (sp i l s n e) txid _
       (enters (λ t. input-one i 0 (at + 32 - 32) at t (omega arith))
-      (number-at 4 (lit< tt) _ (at + 32) z c (sp i l s n e) (at + 32) 0 4 little _ (omega arith) (λ _. refl) λ raw _.
+      (number-at 4 (lit< tt) _ (at + 32) z c (sp i l s n e) (at + 32) LITTLE 4 little _ (omega arith) (λ _. refl) λ raw _.
       enters (input-two i 1 (vout raw) (flags raw))
       (body-at 5 (lit< tt) (at + 32 + 4) z c (sp i l (flagBit 31 raw) n e) scriptBody _ (λ _. sp i l (flagBit 31 raw) n e) _
       (record {
@@ -272,7 +272,7 @@ module _ (z : Sizes) (c : Counts) (i l e : ℕ) where
         seen = λ f w n at′. refl;
         whole = λ s. refl;
         next = λ g n at′ less.
-            number-at 6 (lit< tt) g at′ z c _ at′ 0 4 little _ (omega arith) (λ _. refl) λ sequence _.
+            number-at 6 (lit< tt) g at′ z c _ at′ LITTLE 4 little _ (omega arith) (λ _. refl) λ sequence _.
             enters (λ t. refl)
             (cond-at (eqb (flagBit 31 raw) 1)
             (λ _. issuance-at _ (at′ + 4) _ _ k (λ g s n at″ less′. next g s n at″ (omega arith)))
@@ -303,17 +303,17 @@ module _ (z : Sizes) (c : Counts) (i l s n e : ℕ) where
   abbrev EndsOutput : ℕ → (ℕ → Layout Head) → Type 0
   EndsOutput at k = (g : Field) (at′ : ℕ) → at < at′ → At at′ (quiet (nextOutput (m.further (on g at′ z c (sp i l s n e))))) (k at′)
 
-  output-at : (g : Field) (at : ℕ) (k : ℕ → Layout Head) → EndsOutput at k → At at (quiet (opened at 12 0 1 (on g at z c (sp i l s n e)))) (outputAt i at k)
+  output-at : (g : Field) (at : ℕ) (k : ℕ → Layout Head) → EndsOutput at k → At at (quiet (opened at 12 LITTLE 1 (on g at z c (sp i l s n e)))) (outputAt i at k)
   unfolding outputAt settleBy littleSettled bigSettled opaqueSettled compactSettled bodyEntered bodyEnds worthOf
   output-at g at k next =
       token-at 12 (lit< tt) g at z c p assetPart assetPrefix _ _
       (record {
-        null = λ v. m.number 13 1 (st 12 0 1 1 v (at + 1) z c p);
-        entry = λ v. m.output2 0 v (at + 1 - 1) (st 12 0 1 1 v (at + 1) z c p);
+        null = λ v. m.number 13 1 (st 12 LITTLE 1 1 v (at + 1) z c p);
+        entry = λ v. m.output2 0 v (at + 1 - 1) (st 12 LITTLE 1 1 v (at + 1) z c p);
         prefix = λ v. refl;
         entered = λ v t. output-two-at 0 v (at + 1 - 1) at t (back-one at);
-        nulls = λ v. value-of (field 12 0 1 1 v) (at + 1) (omega arith);
-        part = λ at′ less. value-of (field 12 4 32 32 0) at′ less;
+        nulls = λ v. value-of (field 12 LITTLE 1 1 v) (at + 1) (omega arith);
+        part = λ at′ less. value-of (field 12 OPAQUE 32 32 0) at′ less;
       })
     where
       p : Spot
@@ -338,25 +338,25 @@ module _ (z : Sizes) (c : Counts) (i l s n e : ℕ) where
       nonce-of g at₂ less =
           token-at 14 (lit< tt) g at₂ z c p noncePart noncePrefix _ _
           (record {
-            null = λ v. m.compact 15 (st 14 0 1 1 v (at₂ + 1) z c p);
-            entry = λ v. m.output2 6 v (at₂ + 1 - 1) (st 14 0 1 1 v (at₂ + 1) z c p);
+            null = λ v. m.compact 15 (st 14 LITTLE 1 1 v (at₂ + 1) z c p);
+            entry = λ v. m.output2 6 v (at₂ + 1 - 1) (st 14 LITTLE 1 1 v (at₂ + 1) z c p);
             prefix = λ v. refl;
             entered = λ v t. output-two-at 6 v (at₂ + 1 - 1) at₂ t (back-one at₂);
-            nulls = λ v. script-of (field 14 0 1 1 v) (at₂ + 1) (omega arith);
-            part = λ at′ less′. script-of (field 14 4 32 32 0) at′ (omega arith);
+            nulls = λ v. script-of (field 14 LITTLE 1 1 v) (at₂ + 1) (omega arith);
+            part = λ at′ less′. script-of (field 14 OPAQUE 32 32 0) at′ (omega arith);
           })
 
       value-of : (g : Field) (at₁ : ℕ) → at < at₁ → At at₁ (quiet (m.number 13 1 (on g at₁ z c p))) (valueAt at₁ (λ p at. entry output i 2 (p ∷ at ∷ [])) (λ high low. entry output i 4 (high ∷ low ∷ [])) λ _ at₂. prefixedAt at₂ noncePart noncePrefix (λ p at. entry output i 6 (p ∷ at ∷ [])) λ at₃. bodyAt at₃ scriptBody (λ p n. entry output i 8 (p ∷ n ∷ [])) λ _. k)
       value-of g at₁ less =
           value-at 13 (lit< tt) g at₁ z c p p _ _ _
           (record {
-            null = λ v. m.number 14 1 (st 13 0 1 1 v (at₁ + 1) z c p);
-            entry = λ v. m.output2 2 v (at₁ + 1 - 1) (st 13 0 1 1 v (at₁ + 1) z c p);
+            null = λ v. m.number 14 1 (st 13 LITTLE 1 1 v (at₁ + 1) z c p);
+            entry = λ v. m.output2 2 v (at₁ + 1 - 1) (st 13 LITTLE 1 1 v (at₁ + 1) z c p);
             prefix = λ v. refl;
             entered = λ v t. output-two-at 2 v (at₁ + 1 - 1) at₁ t (back-one at₁);
-            nulls = λ v q. nonce-of (field 13 0 1 1 v) (at₁ + 1) (omega arith);
-            explicit = λ v w at′ less′ q. enters (output-two i 4 (w / 2 ^ 32) (w % 2 ^ 32)) (nonce-of (field 13 1 8 8 w) at′ (omega arith));
-            part = λ v at′ less′ q. nonce-of (field 13 4 32 32 0) at′ (omega arith);
+            nulls = λ v q. nonce-of (field 13 LITTLE 1 1 v) (at₁ + 1) (omega arith);
+            explicit = λ v w at′ less′ q. enters (output-two i 4 (w / 2 ^ 32) (w % 2 ^ 32)) (nonce-of (field 13 BIG 8 8 w) at′ (omega arith));
+            part = λ v at′ less′ q. nonce-of (field 13 OPAQUE 32 32 0) at′ (omega arith);
           })
 
 next-output : (s : State) → s .spot .index < s .counts .outputs → nextOutput s ≡ m.number 12 1 s
@@ -547,7 +547,7 @@ module _ (z : Sizes) (v f ins outs lt s u : ℕ) where
 abbrev pub sizesOf : Sizes → layout-outcome.Sizes
 sizesOf z = record { inputs = z .inputs; outputs = z .outputs; items = z .items }
 
-opened-first : (z : Sizes) → fresh z ≡ opened 0 0 0 4 (fresh z)
+opened-first : (z : Sizes) → fresh z ≡ opened 0 0 LITTLE 4 (fresh z)
 unfolding opened
 opened-first z = refl
 
@@ -561,8 +561,8 @@ pub fresh-at : (z : Sizes) → At 0 (quiet (fresh z)) (transaction (roomOf (size
 unfolding transaction settleBy littleSettled compactSettled countAt worthOf locktimeSettled
 fresh-at z =
     as-state (opened-first z)
-    (number-at 0 (lit< tt) (field 0 0 4 0 0) 0 z (ct 0 0 0 0 0 0) (sp 0 0 0 0 0) 0 0 4 little _ (omega arith) (λ _. refl) λ version _.
-    number-at 1 (lit< tt) _ 4 z (ct version 0 0 0 0 0) (sp 0 0 0 0 0) 4 0 1 little _ (omega arith) (λ _. refl) λ flag _.
+    (number-at 0 (lit< tt) (field 0 LITTLE 4 0 0) 0 z (ct 0 0 0 0 0 0) (sp 0 0 0 0 0) 0 LITTLE 4 little _ (omega arith) (λ _. refl) λ version _.
+    number-at 1 (lit< tt) _ 4 z (ct version 0 0 0 0 0) (sp 0 0 0 0 0) 4 LITTLE 1 little _ (omega arith) (λ _. refl) λ flag _.
     compact-at 2 (lit< tt) 5 z (ct version flag 0 0 0 0) (sp 0 0 0 0 0) _ _ λ f′ w ins at₃ _.
     cond-at (leb ins (z .inputs / 20))
     (λ _. inputs-at z (ct version flag ins 0 0 0) 0 0 _
@@ -571,13 +571,13 @@ fresh-at z =
     cond-at (leb outs (z .outputs / 14))
     (λ _. outputs-at z (ct version flag ins outs 0 0) 0 s u 0 _
     (λ g′ i′ at₆.
-    number-at 16 (lit< tt) g′ at₆ z (ct version flag ins outs 0 0) (sp i′ 0 s u 0) at₆ 0 4 little _ (omega arith) (λ _. refl) λ locktime _.
-    cond-at (eqb flag 0) (λ _. finish-at (on (field 16 0 4 4 locktime) (at₆ + 4) z (ct version flag ins outs 0 locktime) (sp i′ 0 s u 0))) λ _.
+    number-at 16 (lit< tt) g′ at₆ z (ct version flag ins outs 0 0) (sp i′ 0 s u 0) at₆ LITTLE 4 little _ (omega arith) (λ _. refl) λ locktime _.
+    cond-at (eqb flag 0) (λ _. finish-at (on (field 16 LITTLE 4 4 locktime) (at₆ + 4) z (ct version flag ins outs 0 locktime) (sp i′ 0 s u 0))) λ _.
     cond-at (eqb flag 1)
     (λ _. input-witnesses-at z version flag ins outs locktime s u _
     (λ g₁ items l b at₈. output-witnesses-at z version flag ins outs locktime s u _ items l (λ g₂ j b′ at₉. end-at z version flag ins outs locktime s u j l items b′ g₂ at₉) outs 0 g₁ b at₈ (zero-add outs))
-    ins 0 (field 16 0 4 4 locktime) 0 0 true (at₆ + 4) (zero-add ins))
-    (λ _. refuse-at 7 4 (on (field 16 0 4 4 locktime) (at₆ + 4) z (ct version flag ins outs 0 locktime) (sp i′ 0 s u 0))))
+    ins 0 (field 16 LITTLE 4 4 locktime) 0 0 true (at₆ + 4) (zero-add ins))
+    (λ _. refuse-at 7 4 (on (field 16 LITTLE 4 4 locktime) (at₆ + 4) z (ct version flag ins outs 0 locktime) (sp i′ 0 s u 0))))
     outs 0 (field 11 f″ w′ w′ outs) at₅ (zero-add outs))
     (λ _. refuse-at 4 at₄ (st 11 f″ w′ w′ outs at₅ z (ct version flag ins 0 0 0) (sp i 0 s u 0))))
     ins 0 (field 2 f′ w w ins) 0 0 at₃ (zero-add ins))

@@ -16,6 +16,23 @@ use Rattle.decoders.specs.declared.Entered.{Entered}
 use Rattle.decoders.specs.declared.Settled.{Settled}
 use Rattle.decoders.specs.declared.TransactionDecoder.{TransactionDecoder}
 
+-- ---- a field's forms: a count's or length's further bytes and its first byte, bytes that are never looked at, numbers
+
+abbrev pub FURTHER : ℕ
+FURTHER = 0
+
+abbrev pub FIRST : ℕ
+FIRST = 1
+
+abbrev pub OPAQUE : ℕ
+OPAQUE = 2
+
+abbrev pub LITTLE : ℕ
+LITTLE = 3
+
+abbrev pub BIG : ℕ
+BIG = 4
+
 -- ---- the state's parts
 
 abbrev pub State : Type 0
@@ -94,19 +111,18 @@ refuse n place s =
 unfoldable pub finished : State → State
 finished s = withField (field 25 0 0 0 0) s
 
--- A field is opened behind the bytes taken, or refused by number 2. Forms: 0 little-endian, 1 big-endian, 2 the first byte of a
--- count or length, 3 its further bytes, 4 bytes that are never looked at.
+-- A field is opened behind the bytes taken, or refused by number 2.
 unfoldable pub opened : ℕ → ℕ → ℕ → ℕ → State → State
 opened place stage form width s = cond (leb (s .taken + width) limit) (withField (field stage form width 0 0) s) (refuse 2 place s)
 
 abbrev pub number : ℕ → ℕ → State → State
-number stage width s = opened (s .taken) stage 0 width s
+number stage width s = opened (s .taken) stage LITTLE width s
 
 abbrev pub compact : ℕ → State → State
-compact stage s = opened (s .taken) stage 2 1 s
+compact stage s = opened (s .taken) stage FIRST 1 s
 
 abbrev pub opaque : ℕ → State → State
-opaque stage s = opened (s .taken) stage 4 32 s
+opaque stage s = opened (s .taken) stage OPAQUE 32 s
 
 -- ---- what follows a record, an item, a body
 
@@ -197,7 +213,7 @@ unfoldable pub lengthSettled : ℕ → ℕ → ℕ → State → Settled
 lengthSettled stage start n s =
     let t = cond (isProof stage) (emptied n s) s in
     cond (leb (s .taken + n) limit)
-    (settled (cond (eqb n 0) (bodyEnds stage t) (withField (field stage 4 n 0 0) t)) (bodyEntered stage n s))
+    (settled (cond (eqb n 0) (bodyEnds stage t) (withField (field stage OPAQUE n 0 0) t)) (bodyEntered stage n s))
     (quiet (refuse 2 start s))
 
 -- by the count's or length's stage, with its start and value
@@ -215,7 +231,7 @@ unfoldable pub firstSettled : State → Settled
 firstSettled s =
     let first = s .field .value in
     let start = s .taken - 1 in
-    cond (leb first 252) (compactSettled (s .field .stage) start first s) (quiet (opened start (s .field .stage) 3 (announced first) s))
+    cond (leb first 252) (compactSettled (s .field .stage) start first s) (quiet (opened start (s .field .stage) FURTHER (announced first) s))
 
 unfoldable pub furtherSettled : State → Settled
 furtherSettled s =
@@ -228,7 +244,7 @@ unfoldable pub valueSettled : State → State → State
 valueSettled null s =
     let prefix = s .field .value in
     cond (eqb prefix 0) null ▸
-    cond (eqb prefix 1) (opened (s .taken) (s .field .stage) 1 8 s) ▸
+    cond (eqb prefix 1) (opened (s .taken) (s .field .stage) BIG 8 s) ▸
     cond (eqb prefix 8 || eqb prefix 9) (opaque (s .field .stage) s) ▸
     refuse 5 (s .taken - 1) s
 
@@ -288,11 +304,11 @@ opaqueSettled stage s =
 
 unfoldable pub settleBy : ℕ → State → Settled
 settleBy form s =
-    cond (eqb form 0) (littleSettled (s .field .stage) s) ▸
-    cond (eqb form 1) (bigSettled (s .field .stage) s) ▸
-    cond (eqb form 2) (firstSettled s) ▸
-    cond (eqb form 3) (furtherSettled s) ▸
-    opaqueSettled (s .field .stage) s
+    cond (eqb form FURTHER) (furtherSettled s) ▸
+    cond (eqb form FIRST) (firstSettled s) ▸
+    cond (eqb form OPAQUE) (opaqueSettled (s .field .stage) s) ▸
+    cond (eqb form LITTLE) (littleSettled (s .field .stage) s) ▸
+    bigSettled (s .field .stage) s
 
 abbrev pub settle : State → Settled
 settle s = settleBy (s .field .form) s
@@ -301,7 +317,7 @@ settle s = settleBy (s .field .form) s
 
 -- what a byte makes of the value so far: little-endian, big-endian, or never looked at
 unfoldable pub worth : ℕ → ℕ → ℕ → ℕ → ℕ
-worth form value have b = cond (eqb form 4) value ▸ cond (eqb form 1) (value * 256 + b) ▸ value + b * 256 ^ have
+worth form value have b = cond (eqb form OPAQUE) value ▸ cond (eqb form BIG) (value * 256 + b) ▸ value + b * 256 ^ have
 
 abbrev pub gather : State → ℕ → State
 gather s b =
@@ -365,7 +381,7 @@ answerOf s = cond (eqb (s .field .stage) 25) (Answer.finished (headOf s)) ▸ co
 abbrev pub fresh : Sizes → State
 fresh z =
     record {
-      field = field 0 0 4 0 0;
+      field = field 0 LITTLE 4 0 0;
       taken = 0;
       sizes = z;
       counts = record { version = 0; flag = 0; inputs = 0; outputs = 0; items = 0; locktime = 0 };
