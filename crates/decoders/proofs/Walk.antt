@@ -23,7 +23,7 @@ use Rattle.decoders.specs.declared.Spot.{Spot}
 use Rattle.decoders.specs.declared.Entered.{Entered}
 use Rattle.decoders.specs.declared.Settled.{Settled}
 use Rattle.decoders.specs.Machine as m
-use Rattle.decoders.specs.Machine.{FURTHER, FIRST, OPAQUE, LITTLE, BIG, State, field, settled, quiet, settle, settleBy, answerOf, headOf, enterBy, opened, compactSettled, lengthSettled, firstSettled, furtherSettled, bodyEnds, bodyEntered, isProof, emptied, littleSettled, bigSettled, opaqueSettled, valueSettled, tokenSettled, nextInput, nextOutput, nextInputWitness, nextOutputWitness, nextScriptItem, nextPeginItem, witnessesEnd, locktimeSettled, fresh}
+use Rattle.decoders.specs.Machine.{FURTHER, FIRST, OPAQUE, LITTLE, BIG, State, field, settled, quiet, settle, settleBy, answerOf, headOf, enterBy, opened, compactSettled, lengthSettled, firstSettled, furtherSettled, bodyEnds, bodyEntered, bodySeen, bodyOpened, emptied, inputsCounted, outputsCounted, scriptCounted, peginCounted, littleSettled, bigSettled, opaqueSettled, valuePart, prefixedPart, amountNext, keysNext, nullKeysNext, assetNext, valueNext, nonceNext, sequenceNext, nextInput, nextOutput, nextInputWitness, nextOutputWitness, nextScriptItem, nextPeginItem, witnessesEnd, locktimeNext, fresh}
 use Rattle.decoders.proofs.Simulation.{st, worthOf, At, refusing, ending, awaiting, passing, nothing, enters}
 
 -- a state whose field is spent
@@ -39,11 +39,11 @@ sp i l s n e = record { index = i; left = l; issuance = s; null = n; empty = e }
 -- ---- ends, tests, fields
 
 refuse-at : (n p : ℕ) (s : State) → At (s .taken) (quiet (m.refuse n p s)) (refuse n p)
-unfolding m.refuse answerOf
+unfolding answerOf
 refuse-at n p s = refusing {s = m.refuse n p s} (lit≤ tt) refl refl
 
 finish-at : (s : State) → At (s .taken) (quiet (m.finished s)) (accept (headOf s))
-unfolding m.finished answerOf
+unfolding answerOf
 finish-at s = ending {s = m.finished s} (lit≤ tt) refl refl
 
 cond-at : {at : ℕ} (b : Bool) {s s′ : State} {l l′ : Layout Head} → (b ≡ true → At at (quiet s) l) → (b ≡ false → At at (quiet s′) l′) → At at (quiet (cond b s s′)) (cond b l l′)
@@ -97,14 +97,14 @@ module _ (σ : ℕ) (running : σ < 25) (at : ℕ) (z : Sizes) (c : Counts) (p :
   pub record Body (note : ℕ → ℕ → Entry) (after : ℕ → Spot) (k : ℕ → ℕ → Layout Head) : Type 0 where
     pub length : (start n : ℕ) (s : State) → compactSettled σ start n s ≡ lengthSettled σ start n s
     pub entered : (f w n at′ : ℕ) (t : Tables) → enterBy (bodyEntered σ n (st σ f w w n at′ z c p) .table) (bodyEntered σ n (st σ f w w n at′ z c p)) t ≡ lay (note at′ n) t
-    pub seen : (f w n at′ : ℕ) → cond (isProof σ) (emptied n (st σ f w w n at′ z c p)) (st σ f w w n at′ z c p) ≡ st σ f w w n at′ z c (after n)
+    pub seen : (f w n at′ : ℕ) → bodySeen σ n (st σ f w w n at′ z c p) ≡ st σ f w w n at′ z c (after n)
     pub whole : (s : State) → opaqueSettled σ s ≡ quiet (bodyEnds σ s)
     pub next : (g : Field) (n at′ : ℕ) → at < at′ → At at′ (quiet (bodyEnds σ (on g at′ z c (after n)))) (k n at′)
 
   module _ (h : Hidden) (note : ℕ → ℕ → Entry) (after : ℕ → Spot) (k : ℕ → ℕ → Layout Head) (b : Body note after k) where
     -- behind the length: nothing, or the body's bytes
-    rest-at : (f w n at′ : ℕ) → at < at′ → At at′ (quiet (cond (eqb n 0) (bodyEnds σ (st σ f w w n at′ z c (after n))) (m.withField (field σ OPAQUE n 0 0) (st σ f w w n at′ z c (after n))))) (opaque h n (k n (at′ + n)))
-    unfolding settleBy
+    rest-at : (f w n at′ : ℕ) → at < at′ → At at′ (quiet (bodyOpened σ n (st σ f w w n at′ z c (after n)))) (opaque h n (k n (at′ + n)))
+    unfolding settleBy bodyOpened
     rest-at f w n at′ less =
         by-cases (eqb n 0)
         (λ e. rw e (subst (λ (j : ℕ). At at′ (quiet (bodyEnds σ (st σ f w w n at′ z c (after n)))) (opaque h j (k n (at′ + j)))) (sym (eqb-true n 0 e))
@@ -116,7 +116,7 @@ module _ (σ : ℕ) (running : σ < 25) (at : ℕ) (z : Sizes) (c : Counts) (p :
     unfolding lengthSettled
     length-at f w n at′ less =
         cond-settled (leb (at′ + n) limit)
-        (λ _. enters (b .entered f w n at′) (subst (λ (s : State). At at′ (quiet (cond (eqb n 0) (bodyEnds σ s) (m.withField (field σ OPAQUE n 0 0) s))) (opaque h n (k n (at′ + n)))) (sym (b .seen f w n at′)) (rest-at f w n at′ less)))
+        (λ _. enters (b .entered f w n at′) (subst (λ (s : State). At at′ (quiet (bodyOpened σ n s)) (opaque h n (k n (at′ + n)))) (sym (b .seen f w n at′)) (rest-at f w n at′ less)))
         (λ _. refuse-at 2 at (st σ f w w n at′ z c p))
 
     body-at : (g : Field) → At at (quiet (opened at σ FIRST 1 (on g at z c p))) (bodyAt at h note k)
@@ -152,14 +152,14 @@ as-state {at} {l} e d = subst (λ (x : State). At at (quiet x) l) (sym e) d
 pub record Value (σ at : ℕ) (z : Sizes) (c : Counts) (p q : Spot) (note amount : ℕ → ℕ → Entry) (k : ℕ → ℕ → Layout Head) : Type 0 where
   pub null : ℕ → State
   pub entry : ℕ → Entered
-  pub prefix : (v : ℕ) → littleSettled σ (st σ LITTLE 1 1 v (at + 1) z c p) ≡ settled (valueSettled (null v) (st σ LITTLE 1 1 v (at + 1) z c q)) (entry v)
+  pub prefix : (v : ℕ) → littleSettled σ (st σ LITTLE 1 1 v (at + 1) z c p) ≡ settled (cond (eqb v 0) (null v) (valuePart (st σ LITTLE 1 1 v (at + 1) z c q))) (entry v)
   pub entered : (v : ℕ) (t : Tables) → enterBy (entry v .table) (entry v) t ≡ lay (note v at) t
   pub nulls : (v : ℕ) → eqb v 0 ≡ true → At (at + 1) (quiet (null v)) (k v (at + 1))
   pub explicit : (v n at′ : ℕ) → at < at′ → eqb v 0 ≡ false → At at′ (bigSettled σ (st σ BIG 8 8 n at′ z c q)) (enter (amount (n / 2 ^ 32) (n % 2 ^ 32)) (k v at′))
   pub part : (v at′ : ℕ) → at < at′ → eqb v 0 ≡ false → At at′ (opaqueSettled σ (st σ OPAQUE 32 32 0 at′ z c q)) (k v at′)
 
 value-at : (σ : ℕ) → σ < 25 → (g : Field) (at : ℕ) (z : Sizes) (c : Counts) (p q : Spot) (note amount : ℕ → ℕ → Entry) (k : ℕ → ℕ → Layout Head) → Value σ at z c p q note amount k → At at (quiet (opened at σ LITTLE 1 (on g at z c p))) (valueAt at note amount k)
-unfolding valueAt settleBy valueSettled worthOf
+unfolding valueAt settleBy valuePart worthOf
 value-at σ running g at z c p q note amount k b =
     number-at σ running g at z c p at LITTLE 1 little _ (omega arith) (λ _. refl) λ v _.
     as-settled (b .prefix v)
@@ -176,13 +176,13 @@ value-at σ running g at z c p q note amount k b =
 pub record Token (σ at : ℕ) (z : Sizes) (c : Counts) (p : Spot) (listed : ℕ → Bool) (note : ℕ → ℕ → Entry) (k : ℕ → Layout Head) : Type 0 where
   pub null : ℕ → State
   pub entry : ℕ → Entered
-  pub prefix : (v : ℕ) → littleSettled σ (st σ LITTLE 1 1 v (at + 1) z c p) ≡ settled (tokenSettled listed (null v) (st σ LITTLE 1 1 v (at + 1) z c p)) (entry v)
+  pub prefix : (v : ℕ) → littleSettled σ (st σ LITTLE 1 1 v (at + 1) z c p) ≡ settled (cond (eqb v 0) (null v) (prefixedPart listed (st σ LITTLE 1 1 v (at + 1) z c p))) (entry v)
   pub entered : (v : ℕ) (t : Tables) → enterBy (entry v .table) (entry v) t ≡ lay (note v at) t
   pub nulls : (v : ℕ) → At (at + 1) (quiet (null v)) (k (at + 1))
   pub part : (at′ : ℕ) → at < at′ → At at′ (opaqueSettled σ (st σ OPAQUE 32 32 0 at′ z c p)) (k at′)
 
 token-at : (σ : ℕ) → σ < 25 → (g : Field) (at : ℕ) (z : Sizes) (c : Counts) (p : Spot) (h : Hidden) (listed : ℕ → Bool) (note : ℕ → ℕ → Entry) (k : ℕ → Layout Head) → Token σ at z c p listed note k → At at (quiet (opened at σ LITTLE 1 (on g at z c p))) (prefixedAt at h listed note k)
-unfolding prefixedAt settleBy tokenSettled worthOf
+unfolding prefixedAt settleBy prefixedPart worthOf
 token-at σ running g at z c p h listed note k b =
     number-at σ running g at z c p at LITTLE 1 little _ (omega arith) (λ _. refl) λ v _.
     as-settled (b .prefix v)
@@ -213,7 +213,7 @@ module _ (z : Sizes) (c : Counts) (i l e : ℕ) where
 
   -- the keys, behind an amount of prefix v; 66 bytes lie between a null issuance's start and its end
   keys-at : (g : Field) (at at₃ s v : ℕ) (k : ℕ → Layout Head) → at < at₃ → (eqb v 0 ≡ true → at₃ ≡ at + 65) → EndsInput at k → At at₃ (quiet (opened at₃ 10 LITTLE 1 (on g at₃ z c (sp i l s (asNumber (eqb v 0)) e)))) (valueAt at₃ (λ p _. entry input i 10 (p ∷ [])) (λ high low. entry input i 11 (high ∷ low ∷ [])) λ keys at₄. cond (eqb v 0 && eqb keys 0) (refuse 6 at) (k at₄))
-  unfolding littleSettled bigSettled opaqueSettled
+  unfolding littleSettled bigSettled opaqueSettled keysNext nullKeysNext
   keys-at g at at₃ s v k less start next =
       value-at 10 (lit< tt) g at₃ z c p p _ _ _
       (record {
@@ -236,7 +236,7 @@ module _ (z : Sizes) (c : Counts) (i l e : ℕ) where
       not-null w e′ d = rw (e′, and-false (eqb v 0)) d
 
   issuance-at : (g : Field) (at s n : ℕ) (k : ℕ → Layout Head) → EndsInput at k → At at (quiet (opened at 7 OPAQUE 32 (on g at z c (sp i l s n e)))) (issuanceAt i at k)
-  unfolding issuanceAt settleBy littleSettled bigSettled opaqueSettled
+  unfolding issuanceAt settleBy littleSettled bigSettled opaqueSettled amountNext
   issuance-at g at s n k next =
       opaque-at 7 (lit< tt) g at z c (sp i l s n e) blindingNonce _
       (enters (λ t. input-one i 6 (at + 32 - 32) at t (omega arith))
@@ -259,7 +259,7 @@ module _ (z : Sizes) (c : Counts) (i l e : ℕ) where
       keys v h at₃ u less start q = as-state (ap (λ (u′ : ℕ). opened at₃ 10 LITTLE 1 (on h at₃ z c (sp i l s u′ e))) (sym q)) (keys-at h at at₃ s v k less start next)
 
   input-at : (g : Field) (at s n : ℕ) (k : ℕ → Layout Head) → EndsInput at k → At at (quiet (opened at 3 OPAQUE 32 (on g at z c (sp i l s n e)))) (inputAt i at k)
-  unfolding inputAt settleBy littleSettled opaqueSettled compactSettled bodyEntered bodyEnds worthOf
+  unfolding inputAt settleBy littleSettled opaqueSettled compactSettled bodyEntered bodySeen bodyEnds sequenceNext worthOf
   input-at g at s n k next =
       opaque-at 3 (lit< tt) g at z c (sp i l s n e) txid _
       (enters (λ t. input-one i 0 (at + 32 - 32) at t (omega arith))
@@ -304,7 +304,7 @@ module _ (z : Sizes) (c : Counts) (i l s n e : ℕ) where
   EndsOutput at k = (g : Field) (at′ : ℕ) → at < at′ → At at′ (quiet (nextOutput (m.further (on g at′ z c (sp i l s n e))))) (k at′)
 
   output-at : (g : Field) (at : ℕ) (k : ℕ → Layout Head) → EndsOutput at k → At at (quiet (opened at 12 LITTLE 1 (on g at z c (sp i l s n e)))) (outputAt i at k)
-  unfolding outputAt settleBy littleSettled bigSettled opaqueSettled compactSettled bodyEntered bodyEnds worthOf
+  unfolding outputAt settleBy littleSettled bigSettled opaqueSettled compactSettled bodyEntered bodySeen bodyEnds assetNext valueNext nonceNext worthOf
   output-at g at k next =
       token-at 12 (lit< tt) g at z c p assetPart assetPrefix _ _
       (record {
@@ -391,12 +391,12 @@ pub record Stack (σ : ℕ) (next fin : State → State) : Type 0 where
   pub none : (s : State) → s .spot .left ≡ 0 → next s ≡ fin s
   pub length : (start n : ℕ) (s : State) → compactSettled σ start n s ≡ lengthSettled σ start n s
   pub entered : (n : ℕ) (s : State) → bodyEntered σ n s ≡ m.item2 (s .taken) n s
-  pub seen : isProof σ ≡ false
+  pub seen : (n : ℕ) (s : State) → bodySeen σ n s ≡ s
   pub whole : (s : State) → opaqueSettled σ s ≡ quiet (bodyEnds σ s)
   pub ends : (s : State) → bodyEnds σ s ≡ next (m.itemEnds s)
 
 script-stack : Stack 20 nextScriptItem (m.compact 21)
-unfolding nextScriptItem compactSettled bodyEntered opaqueSettled bodyEnds
+unfolding nextScriptItem compactSettled bodyEntered bodySeen opaqueSettled bodyEnds
 script-stack =
     record {
       running = lit< tt;
@@ -404,13 +404,13 @@ script-stack =
       none = λ s h. rw (le-ltb 0 (s .spot .left) (omega arith));
       length = λ start n s. refl;
       entered = λ n s. refl;
-      seen = refl;
+      seen = λ n s. refl;
       whole = λ s. refl;
       ends = λ s. refl;
     }
 
 pegin-stack : Stack 22 nextPeginItem (λ s. nextInputWitness (m.further s))
-unfolding nextPeginItem compactSettled bodyEntered opaqueSettled bodyEnds
+unfolding nextPeginItem compactSettled bodyEntered bodySeen opaqueSettled bodyEnds
 pegin-stack =
     record {
       running = lit< tt;
@@ -418,7 +418,7 @@ pegin-stack =
       none = λ s h. rw (le-ltb 0 (s .spot .left) (omega arith));
       length = λ start n s. refl;
       entered = λ n s. refl;
-      seen = refl;
+      seen = λ n s. refl;
       whole = λ s. refl;
       ends = λ s. refl;
     }
@@ -458,7 +458,7 @@ module _ (z : Sizes) (v f ins outs lt i s u e : ℕ) where
 module _ (z : Sizes) (v f ins outs lt i s u : ℕ) where
   -- the script stack: its count enters with the first item's index
   script-at : (g : Field) (at items l : ℕ) (b : Bool) (k : ℕ → ℕ → Layout Head) → ((n : ℕ) (g′ : Field) (at′ : ℕ) → At at′ (quiet (m.compact 21 (on g′ at′ z (ct v f ins outs (items + n) lt) (sp i 0 s u (asNumber (b && eqb n 0)))))) (k n at′)) → At at (quiet (m.compact 19 (on g at z (ct v f ins outs items lt) (sp i l s u (asNumber b))))) (stackAt (min (z .items / 2) 4294967295) items at (λ n. entry input i 17 (items ∷ n ∷ [])) k)
-  unfolding stackAt countAt compactSettled
+  unfolding stackAt countAt compactSettled scriptCounted
   script-at g at items l b k next =
       compact-at 19 (lit< tt) at z (ct v f ins outs items lt) (sp i l s u (asNumber b)) g _ λ f′ w n at′ less.
       cond-settled (leb n (min (z .items / 2) 4294967295 - items))
@@ -468,7 +468,7 @@ module _ (z : Sizes) (v f ins outs lt i s u : ℕ) where
       (λ _. refuse-at 4 at (st 19 f′ w w n at′ z (ct v f ins outs items lt) (sp i l s u (asNumber b))))
 
   pegin-at : (g : Field) (at items l : ℕ) (b : Bool) (k : ℕ → ℕ → Layout Head) → ((n : ℕ) (g′ : Field) (at′ : ℕ) → At at′ (quiet (nextInputWitness (m.further (on g′ at′ z (ct v f ins outs (items + n) lt) (sp i 0 s u (asNumber (b && eqb n 0))))))) (k n at′)) → At at (quiet (m.compact 21 (on g at z (ct v f ins outs items lt) (sp i l s u (asNumber b))))) (stackAt (min (z .items / 2) 4294967295) items at (λ n. entry input i 19 (n ∷ [])) k)
-  unfolding stackAt countAt compactSettled
+  unfolding stackAt countAt compactSettled peginCounted
   pegin-at g at items l b k next =
       compact-at 21 (lit< tt) at z (ct v f ins outs items lt) (sp i l s u (asNumber b)) g _ λ f′ w n at′ less.
       cond-settled (leb n (min (z .items / 2) 4294967295 - items))
@@ -478,32 +478,32 @@ module _ (z : Sizes) (v f ins outs lt i s u : ℕ) where
       (λ _. refuse-at 4 at (st 21 f′ w w n at′ z (ct v f ins outs items lt) (sp i l s u (asNumber b))))
 
   -- a proof, whose length bears on whether the witnesses are empty
-  proof-at : (σ : ℕ) → σ < 25 → (g : Field) (at items l : ℕ) (b : Bool) (note : ℕ → ℕ → Entry) (k : ℕ → ℕ → Layout Head) → ((start n : ℕ) (x : State) → compactSettled σ start n x ≡ lengthSettled σ start n x) → ((f′ w n at′ : ℕ) (t : Tables) → let x = st σ f′ w w n at′ z (ct v f ins outs items lt) (sp i l s u (asNumber b)) in enterBy (bodyEntered σ n x .table) (bodyEntered σ n x) t ≡ lay (note at′ n) t) → isProof σ ≡ true → ((x : State) → opaqueSettled σ x ≡ quiet (bodyEnds σ x)) → ((g′ : Field) (n at′ : ℕ) → At at′ (quiet (bodyEnds σ (on g′ at′ z (ct v f ins outs items lt) (sp i l s u (asNumber (b && eqb n 0)))))) (k n at′)) → At at (quiet (m.compact σ (on g at z (ct v f ins outs items lt) (sp i l s u (asNumber b))))) (bodyAt at proofBody note k)
+  proof-at : (σ : ℕ) → σ < 25 → (g : Field) (at items l : ℕ) (b : Bool) (note : ℕ → ℕ → Entry) (k : ℕ → ℕ → Layout Head) → ((start n : ℕ) (x : State) → compactSettled σ start n x ≡ lengthSettled σ start n x) → ((f′ w n at′ : ℕ) (t : Tables) → let x = st σ f′ w w n at′ z (ct v f ins outs items lt) (sp i l s u (asNumber b)) in enterBy (bodyEntered σ n x .table) (bodyEntered σ n x) t ≡ lay (note at′ n) t) → ((n : ℕ) (x : State) → bodySeen σ n x ≡ emptied n x) → ((x : State) → opaqueSettled σ x ≡ quiet (bodyEnds σ x)) → ((g′ : Field) (n at′ : ℕ) → At at′ (quiet (bodyEnds σ (on g′ at′ z (ct v f ins outs items lt) (sp i l s u (asNumber (b && eqb n 0)))))) (k n at′)) → At at (quiet (m.compact σ (on g at z (ct v f ins outs items lt) (sp i l s u (asNumber b))))) (bodyAt at proofBody note k)
   proof-at σ running g at items l b note k len ent isproof whole next =
       body-at σ running at z (ct v f ins outs items lt) (sp i l s u (asNumber b)) proofBody note (λ n. sp i l s u (asNumber (b && eqb n 0))) k
       (record {
         length = len;
         entered = ent;
-        seen = λ f′ w n at′. rw isproof (emptied-as n (field σ f′ w w n) at′ z (ct v f ins outs items lt) i l s u b);
+        seen = λ f′ w n at′. isproof n _ ∙ (emptied-as n (field σ f′ w w n) at′ z (ct v f ins outs items lt) i l s u b);
         whole = whole;
         next = λ g′ n at′ _. next g′ n at′;
       })
       g
 
   input-witness-at : (g : Field) (at items l : ℕ) (b : Bool) (k : Seen → ℕ → Layout Head) → ((g′ : Field) (items′ l′ : ℕ) (b′ : Bool) (at′ : ℕ) → At at′ (quiet (nextInputWitness (m.further (on g′ at′ z (ct v f ins outs items′ lt) (sp i l′ s u (asNumber b′)))))) (k (seen items′ b′) at′)) → At at (quiet (m.compact 17 (on g at z (ct v f ins outs items lt) (sp i l s u (asNumber b))))) (inputWitnessAt (min (z .items / 2) 4294967295) i (seen items b) at k)
-  unfolding inputWitnessAt compactSettled bodyEntered opaqueSettled bodyEnds
+  unfolding inputWitnessAt compactSettled bodyEntered bodySeen opaqueSettled bodyEnds
   input-witness-at g at items l b k next =
-      proof-at 17 (lit< tt) g at items l b _ _ (λ _ _ _. refl) (λ f′ w n at′. input-two i 13 at′ n) refl (λ _. refl) λ g₁ amount at₁.
-      proof-at 18 (lit< tt) g₁ at₁ items l (b && eqb amount 0) _ _ (λ _ _ _. refl) (λ f′ w n at′. input-two i 15 at′ n) refl (λ _. refl) λ g₂ keys at₂.
+      proof-at 17 (lit< tt) g at items l b _ _ (λ _ _ _. refl) (λ f′ w n at′. input-two i 13 at′ n) (λ _ _. refl) (λ _. refl) λ g₁ amount at₁.
+      proof-at 18 (lit< tt) g₁ at₁ items l (b && eqb amount 0) _ _ (λ _ _ _. refl) (λ f′ w n at′. input-two i 15 at′ n) (λ _ _. refl) (λ _. refl) λ g₂ keys at₂.
       script-at g₂ at₂ items l (b && eqb amount 0 && eqb keys 0) _ λ script g₃ at₃.
       pegin-at g₃ at₃ (items + script) 0 (b && eqb amount 0 && eqb keys 0 && eqb script 0) _ λ pegin g₄ at₄.
       next g₄ (items + script + pegin) 0 (b && eqb amount 0 && eqb keys 0 && eqb script 0 && eqb pegin 0) at₄
 
   output-witness-at : (g : Field) (at items l : ℕ) (b : Bool) (k : Seen → ℕ → Layout Head) → ((g′ : Field) (b′ : Bool) (at′ : ℕ) → At at′ (quiet (nextOutputWitness (m.further (on g′ at′ z (ct v f ins outs items lt) (sp i l s u (asNumber b′)))))) (k (seen items b′) at′)) → At at (quiet (m.compact 23 (on g at z (ct v f ins outs items lt) (sp i l s u (asNumber b))))) (outputWitnessAt i (seen items b) at k)
-  unfolding outputWitnessAt compactSettled bodyEntered opaqueSettled bodyEnds
+  unfolding outputWitnessAt compactSettled bodyEntered bodySeen opaqueSettled bodyEnds
   output-witness-at g at items l b k next =
-      proof-at 23 (lit< tt) g at items l b _ _ (λ _ _ _. refl) (λ f′ w n at′. output-two i 10 at′ n) refl (λ _. refl) λ g₁ surjection at₁.
-      proof-at 24 (lit< tt) g₁ at₁ items l (b && eqb surjection 0) _ _ (λ _ _ _. refl) (λ f′ w n at′. output-two i 12 at′ n) refl (λ _. refl) λ g₂ range at₂.
+      proof-at 23 (lit< tt) g at items l b _ _ (λ _ _ _. refl) (λ f′ w n at′. output-two i 10 at′ n) (λ _ _. refl) (λ _. refl) λ g₁ surjection at₁.
+      proof-at 24 (lit< tt) g₁ at₁ items l (b && eqb surjection 0) _ _ (λ _ _ _. refl) (λ f′ w n at′. output-two i 12 at′ n) (λ _ _. refl) (λ _. refl) λ g₂ range at₂.
       next g₂ (b && eqb surjection 0 && eqb range 0) at₂
 
 next-input-witness : (s : State) → s .spot .index < s .counts .inputs → nextInputWitness s ≡ m.compact 17 s
@@ -558,7 +558,7 @@ end-at z v f ins outs lt s u i l items true g at = refuse-at 8 4 (on g at z (ct 
 end-at z v f ins outs lt s u i l items false g at = finish-at (on g at z (ct v f ins outs items lt) (sp i l s u 0))
 
 pub fresh-at : (z : Sizes) → At 0 (quiet (fresh z)) (transaction (roomOf (sizesOf z)))
-unfolding transaction settleBy littleSettled compactSettled countAt worthOf locktimeSettled
+unfolding transaction settleBy littleSettled compactSettled inputsCounted outputsCounted countAt worthOf locktimeNext
 fresh-at z =
     as-state (opened-first z)
     (number-at 0 (lit< tt) (field 0 LITTLE 4 0 0) 0 z (ct 0 0 0 0 0 0) (sp 0 0 0 0 0) 0 LITTLE 4 little _ (omega arith) (λ _. refl) λ version _.

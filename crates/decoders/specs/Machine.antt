@@ -1,6 +1,6 @@
 -- The reader's state machine, as pure functions on its state. It says what every state does, forged ones too; proofs/ tie it to
 -- document 01's reading. `settle` is what happens when a field's last byte is taken; its bytes are counted in `taken` already.
-use Prim.Native.Nat.{ℕ, zero, suc, _+_, _-_, _*_, _/_, _%_, _^_, min}
+use Prim.Native.Nat.{ℕ, zero, suc, _+_, _-_, _*_, _/_, _%_, _^_, _≤_, min}
 use mathlib.Core.Bool.{Bool, true, false, cond, _&&_, _||_}
 use mathlib.Core.List.{List, [], _∷_}
 use lib.Dec.{leb, ltb, eqb}
@@ -97,7 +97,7 @@ itemRoom s = min (s .sizes .items / 2) 4294967295
 -- ---- ended states, and opening the next field
 
 -- Stage 26: a refusal; `value` is its number and `have` its place, all else but the sizes and the bytes taken is 0.
-unfoldable pub refuse : ℕ → ℕ → State → State
+abbrev pub refuse : ℕ → ℕ → State → State
 refuse n place s =
     record {
       field = field 26 0 0 place n;
@@ -108,7 +108,7 @@ refuse n place s =
     }
 
 -- Stage 25: finished.
-unfoldable pub finished : State → State
+abbrev pub finished : State → State
 finished s = withField (field 25 0 0 0 0) s
 
 -- A field is opened behind the bytes taken, or refused by number 2.
@@ -205,55 +205,91 @@ bodyEntered stage n s =
     cond (eqb stage 23) (output2 10 (s .taken) n s) ▸
     output2 12 (s .taken) n s
 
--- does a body of this stage bear on whether the witnesses are empty?
-abbrev pub isProof : ℕ → Bool
-isProof stage = eqb stage 17 || eqb stage 18 || eqb stage 23 || eqb stage 24
+-- a proof's length bears on whether the witnesses are empty
+unfoldable pub bodySeen : ℕ → ℕ → State → State
+bodySeen stage n s = cond (eqb stage 17 || eqb stage 18 || eqb stage 23 || eqb stage 24) (emptied n s) s
+
+unfoldable pub bodyOpened : ℕ → ℕ → State → State
+bodyOpened stage n s = cond (eqb n 0) (bodyEnds stage s) (withField (field stage OPAQUE n 0 0) s)
 
 unfoldable pub lengthSettled : ℕ → ℕ → ℕ → State → Settled
 lengthSettled stage start n s =
-    let t = cond (isProof stage) (emptied n s) s in
     cond (leb (s .taken + n) limit)
-    (settled (cond (eqb n 0) (bodyEnds stage t) (withField (field stage OPAQUE n 0 0) t)) (bodyEntered stage n s))
+    (settled (bodyOpened stage n (bodySeen stage n s)) (bodyEntered stage n s))
     (quiet (refuse 2 start s))
+
+unfoldable pub inputsCounted : ℕ → ℕ → State → Settled
+inputsCounted start n s = quiet (cond (leb n (inputRoom s)) (nextInput (setIndex 0 (setInputs n s))) (refuse 4 start s))
+
+unfoldable pub outputsCounted : ℕ → ℕ → State → Settled
+outputsCounted start n s = quiet (cond (leb n (outputRoom s)) (nextOutput (setIndex 0 (setOutputs n s))) (refuse 4 start s))
+
+-- the first item's index enters with the script count
+unfoldable pub scriptCounted : ℕ → ℕ → State → Settled
+scriptCounted start n s =
+    cond (leb n (itemRoom s - s .counts .items))
+    (settled (nextScriptItem (emptied n (setLeft n s))) (input2 17 (s .counts .items) n s))
+    (quiet (refuse 4 start s))
+
+unfoldable pub peginCounted : ℕ → ℕ → State → Settled
+peginCounted start n s =
+    cond (leb n (itemRoom s - s .counts .items))
+    (settled (nextPeginItem (emptied n (setLeft n s))) (input1 19 n s))
+    (quiet (refuse 4 start s))
 
 -- by the count's or length's stage, with its start and value
 unfoldable pub compactSettled : ℕ → ℕ → ℕ → State → Settled
 compactSettled stage start n s =
-    cond (eqb stage 2) (quiet (cond (leb n (inputRoom s)) (nextInput (setIndex 0 (setInputs n s))) (refuse 4 start s))) ▸
-    cond (eqb stage 11) (quiet (cond (leb n (outputRoom s)) (nextOutput (setIndex 0 (setOutputs n s))) (refuse 4 start s))) ▸
-    cond (eqb stage 19)
-    (cond (leb n (itemRoom s - s .counts .items)) (settled (nextScriptItem (emptied n (setLeft n s))) (input2 17 (s .counts .items) n s)) (quiet (refuse 4 start s))) ▸
-    cond (eqb stage 21)
-    (cond (leb n (itemRoom s - s .counts .items)) (settled (nextPeginItem (emptied n (setLeft n s))) (input1 19 n s)) (quiet (refuse 4 start s))) ▸
+    cond (eqb stage 2) (inputsCounted start n s) ▸
+    cond (eqb stage 11) (outputsCounted start n s) ▸
+    cond (eqb stage 19) (scriptCounted start n s) ▸
+    cond (eqb stage 21) (peginCounted start n s) ▸
     lengthSettled stage start n s
 
 unfoldable pub firstSettled : State → Settled
 firstSettled s =
-    let first = s .field .value in
-    let start = s .taken - 1 in
-    cond (leb first 252) (compactSettled (s .field .stage) start first s) (quiet (opened start (s .field .stage) FURTHER (announced first) s))
+    cond (leb (s .field .value) 252)
+    (compactSettled (s .field .stage) (s .taken - 1) (s .field .value) s)
+    (quiet (opened (s .taken - 1) (s .field .stage) FURTHER (announced (s .field .value)) s))
 
 unfoldable pub furtherSettled : State → Settled
 furtherSettled s =
-    let start = s .taken - s .field .width - 1 in
-    cond (leb (least (s .field .width)) (s .field .value)) (compactSettled (s .field .stage) start (s .field .value) s) (quiet (refuse 3 start s))
+    cond (leb (least (s .field .width)) (s .field .value))
+    (compactSettled (s .field .stage) (s .taken - s .field .width - 1) (s .field .value) s)
+    (quiet (refuse 3 (s .taken - s .field .width - 1) s))
 
--- ---- values, assetPrefix and noncePrefix: the prefix, and what it announces
+-- ---- values, assets and nonces: the prefix, and what it announces
 
-unfoldable pub valueSettled : State → State → State
-valueSettled null s =
-    let prefix = s .field .value in
-    cond (eqb prefix 0) null ▸
-    cond (eqb prefix 1) (opened (s .taken) (s .field .stage) BIG 8 s) ▸
-    cond (eqb prefix 8 || eqb prefix 9) (opaque (s .field .stage) s) ▸
+unfoldable pub valuePart : State → State
+valuePart s =
+    cond (eqb (s .field .value) 1) (opened (s .taken) (s .field .stage) BIG 8 s) ▸
+    cond (eqb (s .field .value) 8 || eqb (s .field .value) 9) (opaque (s .field .stage) s) ▸
     refuse 5 (s .taken - 1) s
 
-unfoldable pub tokenSettled : (ℕ → Bool) → State → State → State
-tokenSettled listed null s =
-    let prefix = s .field .value in
-    cond (eqb prefix 0) null ▸
-    cond (listed prefix) (opaque (s .field .stage) s) ▸
+unfoldable pub prefixedPart : (ℕ → Bool) → State → State
+prefixedPart listed s =
+    cond (listed (s .field .value)) (opaque (s .field .stage) s) ▸
     refuse 5 (s .taken - 1) s
+
+-- an issuance's amount: whether it is null is kept for the keys
+unfoldable pub amountNext : State → State
+amountNext s = cond (eqb (s .field .value) 0) (number 10 1 (setNull 1 s)) (valuePart (setNull 0 s))
+
+-- 6 is placed at the issuance's start, 66 bytes before the end of a null one
+unfoldable pub nullKeysNext : State → State
+nullKeysNext s = cond (eqb (s .spot .null) 1) (refuse 6 (s .taken - 66) s) (nextInput (further s))
+
+unfoldable pub keysNext : State → State
+keysNext s = cond (eqb (s .field .value) 0) (nullKeysNext s) (valuePart s)
+
+unfoldable pub assetNext : State → State
+assetNext s = cond (eqb (s .field .value) 0) (number 13 1 s) (prefixedPart assetPrefix s)
+
+unfoldable pub valueNext : State → State
+valueNext s = cond (eqb (s .field .value) 0) (number 14 1 s) (valuePart s)
+
+unfoldable pub nonceNext : State → State
+nonceNext s = cond (eqb (s .field .value) 0) (compact 15 s) (prefixedPart noncePrefix s)
 
 abbrev pub high : State → ℕ
 high s = s .field .value / 2 ^ 32
@@ -263,26 +299,57 @@ low s = s .field .value % 2 ^ 32
 
 -- ---- by form and stage
 
-unfoldable pub locktimeSettled : State → State
-locktimeSettled s =
+unfoldable pub sequenceNext : State → State
+sequenceNext s = cond (eqb (s .spot .issuance) 1) (opaque 7 s) (nextInput (further s))
+
+unfoldable pub locktimeNext : State → State
+locktimeNext s =
     cond (eqb (s .counts .flag) 0) (finished s) ▸
     cond (eqb (s .counts .flag) 1) (nextInputWitness (setEmpty 1 (setIndex 0 s))) ▸
     refuse 7 4 s
 
+abbrev pub versionSettled : State → Settled
+versionSettled s = quiet (number 1 1 (setVersion (s .field .value) s))
+
+abbrev pub flagSettled : State → Settled
+flagSettled s = quiet (compact 2 (setFlag (s .field .value) s))
+
+abbrev pub voutSettled : State → Settled
+voutSettled s = settled (compact 5 (setIssuance (flagBit 31 (s .field .value)) s)) (input2 1 (vout (s .field .value)) (flags (s .field .value)) s)
+
+abbrev pub sequenceSettled : State → Settled
+sequenceSettled s = settled (sequenceNext s) (input1 5 (s .field .value) s)
+
+abbrev pub amountSettled : State → Settled
+amountSettled s = settled (amountNext s) (input1 7 (s .field .value) s)
+
+abbrev pub keysSettled : State → Settled
+keysSettled s = settled (keysNext s) (input1 10 (s .field .value) s)
+
+abbrev pub assetSettled : State → Settled
+assetSettled s = settled (assetNext s) (output2 0 (s .field .value) (s .taken - 1) s)
+
+abbrev pub valueSettled : State → Settled
+valueSettled s = settled (valueNext s) (output2 2 (s .field .value) (s .taken - 1) s)
+
+abbrev pub nonceSettled : State → Settled
+nonceSettled s = settled (nonceNext s) (output2 6 (s .field .value) (s .taken - 1) s)
+
+abbrev pub locktimeSettled : State → Settled
+locktimeSettled s = quiet (locktimeNext (setLocktime (s .field .value) s))
+
 unfoldable pub littleSettled : ℕ → State → Settled
 littleSettled stage s =
-    let v = s .field .value in
-    cond (eqb stage 0) (quiet (number 1 1 (setVersion v s))) ▸
-    cond (eqb stage 1) (quiet (compact 2 (setFlag v s))) ▸
-    cond (eqb stage 4) (settled (compact 5 (setIssuance (flagBit 31 v) s)) (input2 1 (vout v) (flags v) s)) ▸
-    cond (eqb stage 6) (settled (cond (eqb (s .spot .issuance) 1) (opaque 7 s) (nextInput (further s))) (input1 5 v s)) ▸
-    cond (eqb stage 9) (settled (valueSettled (number 10 1 (setNull 1 s)) (setNull 0 s)) (input1 7 v s)) ▸
-    cond (eqb stage 10)
-    (settled (valueSettled (cond (eqb (s .spot .null) 1) (refuse 6 (s .taken - 66) s) (nextInput (further s))) s) (input1 10 v s)) ▸
-    cond (eqb stage 12) (settled (tokenSettled assetPrefix (number 13 1 s) s) (output2 0 v (s .taken - 1) s)) ▸
-    cond (eqb stage 13) (settled (valueSettled (number 14 1 s) s) (output2 2 v (s .taken - 1) s)) ▸
-    cond (eqb stage 14) (settled (tokenSettled noncePrefix (compact 15 s) s) (output2 6 v (s .taken - 1) s)) ▸
-    quiet (locktimeSettled (setLocktime v s))
+    cond (eqb stage 0) (versionSettled s) ▸
+    cond (eqb stage 1) (flagSettled s) ▸
+    cond (eqb stage 4) (voutSettled s) ▸
+    cond (eqb stage 6) (sequenceSettled s) ▸
+    cond (eqb stage 9) (amountSettled s) ▸
+    cond (eqb stage 10) (keysSettled s) ▸
+    cond (eqb stage 12) (assetSettled s) ▸
+    cond (eqb stage 13) (valueSettled s) ▸
+    cond (eqb stage 14) (nonceSettled s) ▸
+    locktimeSettled s
 
 unfoldable pub bigSettled : ℕ → State → Settled
 bigSettled stage s =
@@ -387,3 +454,9 @@ fresh z =
       counts = record { version = 0; flag = 0; inputs = 0; outputs = 0; items = 0; locktime = 0 };
       spot = record { index = 0; left = 0; issuance = 0; null = 0; empty = 0 };
     }
+
+-- ---- what the code needs so that no sum wraps: every state within its range has it
+pub record Safe (s : State) : Type 0 where
+  pub taken : s .taken ≤ limit
+  pub index : s .spot .index ≤ limit
+  pub items : s .counts .items ≤ 4294967295

@@ -1,0 +1,4 @@
+pub mod Number
+pub mod Compact
+pub mod Reader
+pub mod Theorems

@@ -1,0 +1,2 @@
+-- What the count reader answers.
+pub mod Count
