@@ -16,6 +16,7 @@ use Rattle.layout.specs.Transaction.{Head, Room, limit, entry, within, furtherA
 use Rattle.layout.specs.Outcome as layout-outcome
 use Rattle.layout.specs.Outcome.{Tables, lay, roomOf}
 use Rattle.layout.proofs.Reading.{by-cases}
+use Rattle.confidential.specs.Width.{prefixedWidth}
 use Rattle.decoders.specs.declared.Field.{Field}
 use Rattle.decoders.specs.declared.Sizes.{Sizes}
 use Rattle.decoders.specs.declared.Counts.{Counts}
@@ -23,7 +24,7 @@ use Rattle.decoders.specs.declared.Spot.{Spot}
 use Rattle.decoders.specs.declared.Entered.{Entered}
 use Rattle.decoders.specs.declared.Settled.{Settled}
 use Rattle.decoders.specs.Machine as m
-use Rattle.decoders.specs.Machine.{FURTHER, FIRST, OPAQUE, LITTLE, BIG, State, field, settled, quiet, settle, settleBy, answerOf, headOf, enterBy, opened, compactSettled, lengthSettled, firstSettled, furtherSettled, bodyEnds, bodyEntered, bodySeen, bodyOpened, emptied, inputsCounted, outputsCounted, scriptCounted, peginCounted, littleSettled, bigSettled, opaqueSettled, valuePart, prefixedPart, amountNext, keysNext, nullKeysNext, assetNext, valueNext, nonceNext, sequenceNext, nextInput, nextOutput, nextInputWitness, nextOutputWitness, nextScriptItem, nextPeginItem, witnessesEnd, locktimeNext, fresh}
+use Rattle.decoders.specs.Machine.{FURTHER, FIRST, OPAQUE, LITTLE, BIG, State, field, settled, quiet, settle, settleBy, answerOf, headOf, enterBy, opened, compactSettled, lengthSettled, firstSettled, furtherSettled, bodyEnds, bodyEntered, bodySeen, bodyOpened, emptied, inputsCounted, outputsCounted, scriptCounted, peginCounted, littleSettled, bigSettled, opaqueSettled, valuePart, amountNext, keysNext, nullKeysNext, assetNext, valueNext, nonceNext, sequenceNext, nextInput, nextOutput, nextInputWitness, nextOutputWitness, nextScriptItem, nextPeginItem, witnessesEnd, locktimeNext, fresh}
 use Rattle.decoders.proofs.Simulation.{st, worthOf, At, refusing, ending, awaiting, passing, nothing, enters}
 
 -- a state whose field is spent
@@ -136,8 +137,8 @@ input-two i col a b t = λ j. record { inputs = two-stored (t .inputs) (20 * i +
 output-two : (i col a b : ℕ) (t : Tables) → record { inputs = t .inputs; outputs = set (set (t .outputs) (14 * i + col) a) (14 * i + col + 1) b; items = t .items } ≡ lay (entry output i col (a ∷ b ∷ [])) t
 output-two i col a b t = λ j. record { inputs = t .inputs; outputs = two-stored (t .outputs) (14 * i + col) a b j; items = t .items }
 
-item-two : (i col a b : ℕ) (t : Tables) → record { inputs = t .inputs; outputs = t .outputs; items = set (set (t .items) (2 * i + col) a) (2 * i + col + 1) b } ≡ lay (entry item i col (a ∷ b ∷ [])) t
-item-two i col a b t = λ j. record { inputs = t .inputs; outputs = t .outputs; items = two-stored (t .items) (2 * i + col) a b j }
+item-two : (i a b : ℕ) (t : Tables) → record { inputs = t .inputs; outputs = t .outputs; items = set (set (t .items) (2 * i) a) (2 * i + 1) b } ≡ lay (entry item i 0 (a ∷ b ∷ [])) t
+item-two i a b t = let e = ap (λ (n : ℕ). set (set (t .items) n a) (n + 1) b) (sym (add-zero (2 * i))) ∙ two-stored (t .items) (2 * i + 0) a b in λ j. record { inputs = t .inputs; outputs = t .outputs; items = e j }
 
 -- the same result, and the same state, by an equation
 as-settled : {at : ℕ} {l : Layout Head} {r r′ : Settled} → r ≡ r′ → At at r′ l → At at r l
@@ -158,40 +159,57 @@ pub record Value (σ at : ℕ) (z : Sizes) (c : Counts) (p q : Spot) (note amoun
   pub explicit : (v n at′ : ℕ) → at < at′ → eqb v 0 ≡ false → At at′ (bigSettled σ (st σ BIG 8 8 n at′ z c q)) (enter (amount (n / 2 ^ 32) (n % 2 ^ 32)) (k v at′))
   pub part : (v at′ : ℕ) → at < at′ → eqb v 0 ≡ false → At at′ (opaqueSettled σ (st σ OPAQUE 32 32 0 at′ z c q)) (k v at′)
 
+value-part-as : (σ v at : ℕ) (z : Sizes) (c : Counts) (q : Spot) → eqb v 0 ≡ false → let s = st σ LITTLE 1 1 v (at + 1) z c q in valuePart s ≡ cond (eqb v 1) (opened (at + 1) σ BIG 8 s) (cond (eqb v 8 || eqb v 9) (m.opaque σ s) (m.refuse 5 at s))
+unfolding valuePart
+value-part-as σ v at z c q e₀ =
+    by-cases (eqb v 1)
+    (λ e₁. rw (e₀, e₁))
+    (λ e₁. by-cases (eqb v 8 || eqb v 9)
+    (λ e. rw (e₀, e₁, e))
+    (λ e. rw (e₀, e₁, e) (ap (λ (place : ℕ). m.refuse 5 place (st σ LITTLE 1 1 v (at + 1) z c q)) (back-one at))))
+
 value-at : (σ : ℕ) → σ < 25 → (g : Field) (at : ℕ) (z : Sizes) (c : Counts) (p q : Spot) (note amount : ℕ → ℕ → Entry) (k : ℕ → ℕ → Layout Head) → Value σ at z c p q note amount k → At at (quiet (opened at σ LITTLE 1 (on g at z c p))) (valueAt at note amount k)
-unfolding valueAt settleBy valuePart worthOf
+unfolding valueAt settleBy worthOf
 value-at σ running g at z c p q note amount k b =
     number-at σ running g at z c p at LITTLE 1 little _ (omega arith) (λ _. refl) λ v _.
     as-settled (b .prefix v)
     (enters (b .entered v)
-    (as-state (ap (λ (place : ℕ). cond (eqb v 0) (b .null v) (cond (eqb v 1) (opened (at + 1) σ BIG 8 (st σ LITTLE 1 1 v (at + 1) z c q)) (cond (eqb v 8 || eqb v 9) (m.opaque σ (st σ LITTLE 1 1 v (at + 1) z c q)) (m.refuse 5 place (st σ LITTLE 1 1 v (at + 1) z c q))))) (back-one at))
     (cond-at (eqb v 0) (b .nulls v) λ e₀.
-    cond-at (eqb v 1)
+    as-state (value-part-as σ v at z c q e₀)
+    (cond-at (eqb v 1)
     (λ e. number-at σ running (field σ LITTLE 1 1 v) (at + 1) z c q (at + 1) BIG 8 big _ (omega arith) (λ _. refl) λ n _. b .explicit v n (at + 1 + 8) (omega arith) e₀)
     λ e₁.
     cond-at (eqb v 8 || eqb v 9)
     (λ e. opaque-at σ running (field σ LITTLE 1 1 v) (at + 1) z c q commitmentPart (k v) (b .part v (at + 1 + 32) (omega arith) e₀))
     (λ _. refuse-at 5 at (st σ LITTLE 1 1 v (at + 1) z c q)))))
 
-pub record Token (σ at : ℕ) (z : Sizes) (c : Counts) (p : Spot) (listed : ℕ → Bool) (note : ℕ → ℕ → Entry) (k : ℕ → Layout Head) : Type 0 where
+pub record Token (σ at : ℕ) (z : Sizes) (c : Counts) (p : Spot) (listed : ℕ → Bool) (partOf : State → State) (note : ℕ → ℕ → Entry) (k : ℕ → Layout Head) : Type 0 where
   pub null : ℕ → State
   pub entry : ℕ → Entered
-  pub prefix : (v : ℕ) → littleSettled σ (st σ LITTLE 1 1 v (at + 1) z c p) ≡ settled (cond (eqb v 0) (null v) (prefixedPart listed (st σ LITTLE 1 1 v (at + 1) z c p))) (entry v)
+  pub prefix : (v : ℕ) → littleSettled σ (st σ LITTLE 1 1 v (at + 1) z c p) ≡ settled (cond (eqb v 0) (null v) (partOf (st σ LITTLE 1 1 v (at + 1) z c p))) (entry v)
+  pub parts : (v : ℕ) → eqb v 0 ≡ false → partOf (st σ LITTLE 1 1 v (at + 1) z c p) ≡ cond (listed v) (m.opaque σ (st σ LITTLE 1 1 v (at + 1) z c p)) (m.refuse 5 at (st σ LITTLE 1 1 v (at + 1) z c p))
   pub entered : (v : ℕ) (t : Tables) → enterBy (entry v .table) (entry v) t ≡ lay (note v at) t
   pub nulls : (v : ℕ) → At (at + 1) (quiet (null v)) (k (at + 1))
   pub part : (at′ : ℕ) → at < at′ → At at′ (opaqueSettled σ (st σ OPAQUE 32 32 0 at′ z c p)) (k at′)
 
-token-at : (σ : ℕ) → σ < 25 → (g : Field) (at : ℕ) (z : Sizes) (c : Counts) (p : Spot) (h : Hidden) (listed : ℕ → Bool) (note : ℕ → ℕ → Entry) (k : ℕ → Layout Head) → Token σ at z c p listed note k → At at (quiet (opened at σ LITTLE 1 (on g at z c p))) (prefixedAt at h listed note k)
-unfolding prefixedAt settleBy prefixedPart worthOf
-token-at σ running g at z c p h listed note k b =
+token-at : (σ : ℕ) → σ < 25 → (g : Field) (at : ℕ) (z : Sizes) (c : Counts) (p : Spot) (h : Hidden) (listed : ℕ → Bool) (partOf : State → State) (note : ℕ → ℕ → Entry) (k : ℕ → Layout Head) → Token σ at z c p listed partOf note k → At at (quiet (opened at σ LITTLE 1 (on g at z c p))) (prefixedAt at h listed note k)
+unfolding prefixedAt settleBy worthOf
+token-at σ running g at z c p h listed partOf note k b =
     number-at σ running g at z c p at LITTLE 1 little _ (omega arith) (λ _. refl) λ v _.
     as-settled (b .prefix v)
     (enters (b .entered v)
-    (as-state (ap (λ (place : ℕ). cond (eqb v 0) (b .null v) (cond (listed v) (m.opaque σ (st σ LITTLE 1 1 v (at + 1) z c p)) (m.refuse 5 place (st σ LITTLE 1 1 v (at + 1) z c p)))) (back-one at))
     (cond-at (eqb v 0) (λ _. b .nulls v) λ e₀.
-    cond-at (listed v)
+    as-state (b .parts v e₀)
+    (cond-at (listed v)
     (λ e. opaque-at σ running (field σ LITTLE 1 1 v) (at + 1) z c p h k (b .part (at + 1 + 32) (omega arith)))
     (λ _. refuse-at 5 at (st σ LITTLE 1 1 v (at + 1) z c p)))))
+
+-- a listed prefix is one whose field has 33 bytes
+part-as : (listed : ℕ → Bool) (v at : ℕ) (s t : State) → eqb v 0 ≡ false → cond (eqb (prefixedWidth listed v) 33) t (m.refuse 5 (at + 1 - 1) s) ≡ cond (listed v) t (m.refuse 5 at s)
+part-as listed v at s t e₀ =
+    by-cases (listed v)
+    (λ e. rw (e₀, e))
+    (λ e. rw (e₀, e) (ap (λ (place : ℕ). m.refuse 5 place s) (back-one at)))
 
 -- ---- inputs
 
@@ -304,13 +322,14 @@ module _ (z : Sizes) (c : Counts) (i l s n e : ℕ) where
   EndsOutput at k = (g : Field) (at′ : ℕ) → at < at′ → At at′ (quiet (nextOutput (m.further (on g at′ z c (sp i l s n e))))) (k at′)
 
   output-at : (g : Field) (at : ℕ) (k : ℕ → Layout Head) → EndsOutput at k → At at (quiet (opened at 12 LITTLE 1 (on g at z c (sp i l s n e)))) (outputAt i at k)
-  unfolding outputAt settleBy littleSettled bigSettled opaqueSettled compactSettled bodyEntered bodySeen bodyEnds assetNext valueNext nonceNext worthOf
+  unfolding outputAt settleBy littleSettled bigSettled opaqueSettled compactSettled bodyEntered bodySeen bodyEnds assetNext valueNext nonceNext m.assetPart m.noncePart worthOf
   output-at g at k next =
-      token-at 12 (lit< tt) g at z c p assetPart assetPrefix _ _
+      token-at 12 (lit< tt) g at z c p assetPart assetPrefix m.assetPart _ _
       (record {
         null = λ v. m.number 13 1 (st 12 LITTLE 1 1 v (at + 1) z c p);
         entry = λ v. m.output2 0 v (at + 1 - 1) (st 12 LITTLE 1 1 v (at + 1) z c p);
         prefix = λ v. refl;
+        parts = λ v e₀. part-as assetPrefix v at (st 12 LITTLE 1 1 v (at + 1) z c p) (m.opaque 12 (st 12 LITTLE 1 1 v (at + 1) z c p)) e₀;
         entered = λ v t. output-two-at 0 v (at + 1 - 1) at t (back-one at);
         nulls = λ v. value-of (field 12 LITTLE 1 1 v) (at + 1) (omega arith);
         part = λ at′ less. value-of (field 12 OPAQUE 32 32 0) at′ less;
@@ -336,11 +355,12 @@ module _ (z : Sizes) (c : Counts) (i l s n e : ℕ) where
 
       nonce-of : (g : Field) (at₂ : ℕ) → at < at₂ → At at₂ (quiet (m.number 14 1 (on g at₂ z c p))) (prefixedAt at₂ noncePart noncePrefix (λ p at. entry output i 6 (p ∷ at ∷ [])) λ at₃. bodyAt at₃ scriptBody (λ p n. entry output i 8 (p ∷ n ∷ [])) λ _. k)
       nonce-of g at₂ less =
-          token-at 14 (lit< tt) g at₂ z c p noncePart noncePrefix _ _
+          token-at 14 (lit< tt) g at₂ z c p noncePart noncePrefix m.noncePart _ _
           (record {
             null = λ v. m.compact 15 (st 14 LITTLE 1 1 v (at₂ + 1) z c p);
             entry = λ v. m.output2 6 v (at₂ + 1 - 1) (st 14 LITTLE 1 1 v (at₂ + 1) z c p);
             prefix = λ v. refl;
+            parts = λ v e₀. part-as noncePrefix v at₂ (st 14 LITTLE 1 1 v (at₂ + 1) z c p) (m.opaque 14 (st 14 LITTLE 1 1 v (at₂ + 1) z c p)) e₀;
             entered = λ v t. output-two-at 6 v (at₂ + 1 - 1) at₂ t (back-one at₂);
             nulls = λ v. script-of (field 14 LITTLE 1 1 v) (at₂ + 1) (omega arith);
             part = λ at′ less′. script-of (field 14 OPAQUE 32 32 0) at′ (omega arith);
@@ -438,7 +458,7 @@ module _ (z : Sizes) (v f ins outs lt i s u e : ℕ) where
       (body-at σ (q .running) at z (ct v f ins outs j lt) (sp i (suc n) s u e) itemBody _ (λ _. sp i (suc n) s u e) _
       (record {
         length = q .length;
-        entered = λ f′ w m′ at′ t. ap (λ (x : Entered). enterBy (x .table) x t) (q .entered m′ _) ∙ item-two j 0 at′ m′ t;
+        entered = λ f′ w m′ at′ t. ap (λ (x : Entered). enterBy (x .table) x t) (q .entered m′ _) ∙ item-two j at′ m′ t;
         seen = λ f′ w m′ at′. rw (q .seen);
         whole = q .whole;
         next = λ g′ m′ at′ less.

@@ -1,1 +1,5 @@
+-- The reader's definitions: what its contracts cite.
+--     Machine   the state machine, as pure functions on the state
+--     Range     the range test of refusal 11
 pub mod Machine
+pub mod Range

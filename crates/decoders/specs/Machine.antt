@@ -7,7 +7,8 @@ use lib.Dec.{leb, ltb, eqb}
 use lib.ListN.{set}
 use Rattle.layout.specs.Layout.{Answer, refused, more}
 use Rattle.layout.specs.Outcome.{Tables}
-use Rattle.layout.specs.Transaction.{Head, limit, announced, least, vout, flags, flagBit, assetPrefix, noncePrefix, _▸_}
+use Rattle.layout.specs.Transaction.{Head, limit, announced, least, vout, flags, flagBit, _▸_}
+use Rattle.confidential.specs.Width.{valueWidth, assetWidth, nonceWidth}
 use Rattle.decoders.specs.declared.Field.{Field}
 use Rattle.decoders.specs.declared.Sizes.{Sizes}
 use Rattle.decoders.specs.declared.Counts.{Counts}
@@ -187,7 +188,7 @@ abbrev pub output2 : ℕ → ℕ → ℕ → State → Entered
 output2 column n m s = entered 2 2 (14 * s .spot .index + column) n (14 * s .spot .index + column + 1) m
 
 abbrev pub item2 : ℕ → ℕ → State → Entered
-item2 n m s = entered 3 2 (2 * s .counts .items + 0) n (2 * s .counts .items + 0 + 1) m
+item2 n m s = entered 3 2 (2 * s .counts .items) n (2 * s .counts .items + 1) m
 
 -- ---- counts and lengths
 
@@ -262,14 +263,15 @@ furtherSettled s =
 
 unfoldable pub valuePart : State → State
 valuePart s =
-    cond (eqb (s .field .value) 1) (opened (s .taken) (s .field .stage) BIG 8 s) ▸
-    cond (eqb (s .field .value) 8 || eqb (s .field .value) 9) (opaque (s .field .stage) s) ▸
+    cond (eqb (valueWidth (s .field .value)) 9) (opened (s .taken) (s .field .stage) BIG 8 s) ▸
+    cond (eqb (valueWidth (s .field .value)) 33) (opaque (s .field .stage) s) ▸
     refuse 5 (s .taken - 1) s
 
-unfoldable pub prefixedPart : (ℕ → Bool) → State → State
-prefixedPart listed s =
-    cond (listed (s .field .value)) (opaque (s .field .stage) s) ▸
-    refuse 5 (s .taken - 1) s
+unfoldable pub assetPart : State → State
+assetPart s = cond (eqb (assetWidth (s .field .value)) 33) (opaque (s .field .stage) s) (refuse 5 (s .taken - 1) s)
+
+unfoldable pub noncePart : State → State
+noncePart s = cond (eqb (nonceWidth (s .field .value)) 33) (opaque (s .field .stage) s) (refuse 5 (s .taken - 1) s)
 
 -- an issuance's amount: whether it is null is kept for the keys
 unfoldable pub amountNext : State → State
@@ -283,13 +285,13 @@ unfoldable pub keysNext : State → State
 keysNext s = cond (eqb (s .field .value) 0) (nullKeysNext s) (valuePart s)
 
 unfoldable pub assetNext : State → State
-assetNext s = cond (eqb (s .field .value) 0) (number 13 1 s) (prefixedPart assetPrefix s)
+assetNext s = cond (eqb (s .field .value) 0) (number 13 1 s) (assetPart s)
 
 unfoldable pub valueNext : State → State
 valueNext s = cond (eqb (s .field .value) 0) (number 14 1 s) (valuePart s)
 
 unfoldable pub nonceNext : State → State
-nonceNext s = cond (eqb (s .field .value) 0) (compact 15 s) (prefixedPart noncePrefix s)
+nonceNext s = cond (eqb (s .field .value) 0) (compact 15 s) (noncePart s)
 
 abbrev pub high : State → ℕ
 high s = s .field .value / 2 ^ 32
@@ -456,6 +458,10 @@ fresh z =
     }
 
 -- ---- what the code needs so that no sum wraps: every state within its range has it
+pub record Counted (s : State) : Type 0 where
+  pub taken : s .taken ≤ limit
+  pub index : s .spot .index ≤ limit
+
 pub record Safe (s : State) : Type 0 where
   pub taken : s .taken ≤ limit
   pub index : s .spot .index ≤ limit

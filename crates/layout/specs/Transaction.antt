@@ -111,7 +111,7 @@ module _ {A : Type 0} where
   abbrev pub alone : (ℕ → ℕ → (ℕ → Layout A) → Layout A) → ℕ → Unit {0} → ℕ → (Unit {0} → ℕ → Layout A) → Layout A
   alone part i s at k = part i at (k s)
 
--- Raw vout 0xffffffff stays so, with no flag. Otherwise flagBit 30 is the pegin flag, flagBit 31 the issuance flag, both cleared in vout.
+-- Raw vout 0xffffffff stays so, with no flag. Otherwise bit 30 is the pegin flag, bit 31 the issuance flag, both cleared in vout.
 unfoldable pub allOnes : ℕ → Bool
 allOnes raw = eqb raw 0xffff_ffff
 
