@@ -1,7 +1,9 @@
 // The reader: `TransactionDecoder` with its fresh start, feeding and finishing, reading at once and the strict form.
-
+mod compact;
 mod entry;
+mod prefix;
 mod records;
+mod settle;
 mod state;
 
 // The field that is being gathered: its stage and form, its width in bytes, how many of them are there, and what they are worth.

@@ -1,27 +1,18 @@
 use Rattle.decoders.proofs.Laws.{output-more, output-none}
 use mathlib.Core.Path.{sym, _∙_}
-use Rattle.decoders.specs.Machine.{nextOutput}
-use borrow.Author.Tests.{lt-ltb, le-ltb}
 use borrow.Author.Needs.{needs}
 use Rattle.decoders.proofs.TransactionDecoder.next_output.Statement.{statement}
 use Rattle.decoders.proofs.TransactionDecoder.next_output.Tie as tie
-use Rattle.decoders.proofs.TransactionDecoder.next_output.Reads as reads
-use Rattle.decoders.proofs.TransactionDecoder.next_output.Lts as lts
-use Rattle.decoders.proofs.TransactionDecoder.number.Reads as number-reads
 
--- src/records.rt:27:13
 number-requires : tie.Need-number-requires
 number-requires c κs = search needs
 
--- src/records.rt:29:13
 number-requires-2 : tie.Need-number-requires-2
 number-requires-2 c κs = search needs
 
--- src/records.rt:22:5
 returns : tie.Need-returns
 returns c = c .number .ensures ∙ sym (output-more _ (search needs))
 
--- src/records.rt:22:5
 returns-2 : tie.Need-returns-2
 returns-2 c = c .number2 .ensures ∙ sym (output-none _ (search needs))
 

@@ -1,28 +1,18 @@
 use Rattle.decoders.proofs.Laws.{output-witness-more, output-witness-none}
 use mathlib.Core.Path.{sym, _∙_}
-use Rattle.decoders.specs.Machine.{nextOutputWitness}
-use borrow.Author.Tests.{lt-ltb, le-ltb}
 use borrow.Author.Needs.{needs}
 use Rattle.decoders.proofs.TransactionDecoder.next_output_witness.Statement.{statement}
 use Rattle.decoders.proofs.TransactionDecoder.next_output_witness.Tie as tie
-use Rattle.decoders.proofs.TransactionDecoder.next_output_witness.Reads as reads
-use Rattle.decoders.proofs.TransactionDecoder.next_output_witness.Lts as lts
-use Rattle.decoders.proofs.TransactionDecoder.compact.Reads as compact-reads
-use Rattle.decoders.proofs.TransactionDecoder.witnesses_end.Reads as witnesses-end-reads
 
--- src/records.rt:49:13
 compact-requires : tie.Need-compact-requires
 compact-requires c κs = search needs
 
--- src/records.rt:51:13
 witnesses-end-requires : tie.Need-witnesses-end-requires
 witnesses-end-requires c κs = search needs
 
--- src/records.rt:44:5
 returns : tie.Need-returns
 returns c = c .compact .ensures ∙ sym (output-witness-more _ (search needs))
 
--- src/records.rt:44:5
 returns-2 : tie.Need-returns-2
 returns-2 c = c .witnesses-end .ensures ∙ sym (output-witness-none _ (search needs))
 

@@ -1,26 +1,18 @@
 use Rattle.decoders.proofs.Laws.{script-item}
-use mathlib.Core.Path.{sym, _∙_}
+use mathlib.Core.Path.{_∙_}
 use borrow.Author.Needs.{needs}
 use Rattle.decoders.proofs.TransactionDecoder.script_item_ends.Statement.{statement}
 use Rattle.decoders.proofs.TransactionDecoder.script_item_ends.Tie as tie
-use Rattle.decoders.proofs.TransactionDecoder.script_item_ends.Reads as reads
-use Rattle.decoders.proofs.TransactionDecoder.script_item_ends.Lts as lts
-use Rattle.decoders.proofs.TransactionDecoder.next_script_item.Reads as next-script-item-reads
-use Rattle.decoders.proofs.state.minus.Reads as minus-reads
 
--- src/records.rt:123:21
 add-items : tie.Need-add-items
 add-items c = search needs
 
--- src/records.rt:124:13
 minus-requires : tie.Need-minus-requires
 minus-requires c κs = search needs
 
--- src/records.rt:127:9
 next-script-item-requires : tie.Need-next-script-item-requires
 next-script-item-requires c κs = search needs
 
--- src/records.rt:119:5
 returns : tie.Need-returns
 returns c = c .next-script-item .ensures ∙ script-item _ _ (search needs)
 

@@ -1,0 +1,23 @@
+use borrow.Author.Needs.{needs}
+use Rattle.decoders.proofs.TransactionDecoder.value_settled.Statement.{statement}
+use Rattle.decoders.proofs.TransactionDecoder.value_settled.Tie as tie
+
+minus-requires : tie.Need-minus-requires
+minus-requires c κs = search needs
+
+output2-requires : tie.Need-output2-requires
+output2-requires c κs = search needs
+
+value-next-requires : tie.Need-value-next-requires
+value-next-requires c κs = search needs
+
+settled-requires : tie.Need-settled-requires
+settled-requires c κs = search needs
+
+returns : tie.Need-returns
+returns c = cc
+
+pub value-settled-spec : {M : Type 1} → statement M
+value-settled-spec =
+    tie.close
+    (tie.spec minus-requires output2-requires value-next-requires settled-requires returns)

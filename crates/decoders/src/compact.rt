@@ -1,0 +1,200 @@
+// Counts and lengths: what follows their value.
+ghost use mathlib.Core.Path.{_≡_};
+ghost use Rattle.decoders.specs.Machine.{itemRoom, emptied, bodyEntered, bodySeen, bodyOpened, lengthSettled, inputsCounted, outputsCounted, scriptCounted, peginCounted, compactSettled, firstSettled, furtherSettled, Safe};
+use crate::Entered;
+use crate::Field;
+use crate::Settled;
+use crate::TransactionDecoder;
+use crate::state;
+
+impl TransactionDecoder {
+    // Whole item records, as many as a u32 can count.
+    pub(crate) fn item_room(self) -> usize
+        ensures { λ r. ⌜ r ≡ itemRoom self ⌝ }
+    {
+        let half = self.sizes.items / 2;
+        if half <= 4294967295 { half } else { 4294967295 }
+    }
+
+    pub(crate) fn emptied(mut self, n: usize) -> TransactionDecoder
+        ensures { λ r. ⌜ r ≡ emptied n self ⌝ }
+    {
+        if n == 0 {
+            self
+        } else {
+            self.spot.empty = 0;
+            self
+        }
+    }
+
+    // A body's position and length enter with its length's last byte.
+    pub(crate) fn body_entered(self, stage: usize, n: usize) -> Entered
+        requires { ⌜ Safe self ⌝ }
+        ensures { λ r. ⌜ r ≡ bodyEntered stage n self ⌝ }
+    {
+        let at = self.taken;
+        match stage {
+            5 => self.input2(3, at, n),
+            15 => self.output2(8, at, n),
+            17 => self.input2(13, at, n),
+            18 => self.input2(15, at, n),
+            20 => self.item2(at, n),
+            22 => self.item2(at, n),
+            23 => self.output2(10, at, n),
+            _ => self.output2(12, at, n),
+        }
+    }
+
+    // A proof's length bears on whether the witnesses are empty.
+    pub(crate) fn body_seen(self, stage: usize, n: usize) -> TransactionDecoder
+        ensures { λ r. ⌜ r ≡ bodySeen stage n self ⌝ }
+    {
+        match stage {
+            17 => self.emptied(n),
+            18 => self.emptied(n),
+            23 => self.emptied(n),
+            24 => self.emptied(n),
+            _ => self,
+        }
+    }
+
+    // A body of length 0 is no field.
+    pub(crate) fn body_opened(mut self, stage: usize, n: usize) -> TransactionDecoder
+        requires { ⌜ Safe self ⌝ }
+        ensures { λ r. ⌜ r ≡ bodyOpened stage n self ⌝ }
+    {
+        if n == 0 {
+            self.body_ends(stage)
+        } else {
+            let field = Field {
+                stage: stage,
+                form: 2,
+                width: n,
+                have: 0,
+                value: 0,
+            };
+            self.field = field;
+            self
+        }
+    }
+
+    // 2: the body would end past the limit, placed at its length's start.
+    pub(crate) fn length_settled(self, stage: usize, start: usize, n: usize) -> Settled
+        requires { ⌜ Safe self ⌝ }
+        ensures { λ r. ⌜ r ≡ lengthSettled stage start n self ⌝ }
+    {
+        let left = 4000000 - self.taken;
+        if n <= left {
+            let entered = self.body_entered(stage, n);
+            self.body_seen(stage, n)
+                .body_opened(stage, n)
+                .settled(entered)
+        } else {
+            self.refuse(2, start).quiet()
+        }
+    }
+
+    // 4: the count exceeds the records left in its table.
+    pub(crate) fn inputs_counted(mut self, start: usize, n: usize) -> Settled
+        requires { ⌜ Safe self ⌝ }
+        ensures { λ r. ⌜ r ≡ inputsCounted start n self ⌝ }
+    {
+        let room = self.sizes.inputs / 20;
+        if n <= room {
+            self.counts.inputs = n;
+            self.spot.index = 0;
+            self.next_input().quiet()
+        } else {
+            self.refuse(4, start).quiet()
+        }
+    }
+
+    pub(crate) fn outputs_counted(mut self, start: usize, n: usize) -> Settled
+        requires { ⌜ Safe self ⌝ }
+        ensures { λ r. ⌜ r ≡ outputsCounted start n self ⌝ }
+    {
+        let room = self.sizes.outputs / 14;
+        if n <= room {
+            self.counts.outputs = n;
+            self.spot.index = 0;
+            self.next_output().quiet()
+        } else {
+            self.refuse(4, start).quiet()
+        }
+    }
+
+    // The first item's index enters with the script count.
+    pub(crate) fn script_counted(mut self, start: usize, n: usize) -> Settled
+        requires { ⌜ Safe self ⌝ }
+        ensures { λ r. ⌜ r ≡ scriptCounted start n self ⌝ }
+    {
+        let first = self.counts.items;
+        let left = state::minus(self.item_room(), first);
+        if n <= left {
+            let entered = self.input2(17, first, n);
+            self.spot.left = n;
+            self.emptied(n).next_script_item().settled(entered)
+        } else {
+            self.refuse(4, start).quiet()
+        }
+    }
+
+    pub(crate) fn pegin_counted(mut self, start: usize, n: usize) -> Settled
+        requires { ⌜ Safe self ⌝ }
+        ensures { λ r. ⌜ r ≡ peginCounted start n self ⌝ }
+    {
+        let first = self.counts.items;
+        let left = state::minus(self.item_room(), first);
+        if n <= left {
+            let entered = self.input1(19, n);
+            self.spot.left = n;
+            self.emptied(n).next_pegin_item().settled(entered)
+        } else {
+            self.refuse(4, start).quiet()
+        }
+    }
+
+    pub(crate) fn compact_settled(self, stage: usize, start: usize, n: usize) -> Settled
+        requires { ⌜ Safe self ⌝ }
+        ensures { λ r. ⌜ r ≡ compactSettled stage start n self ⌝ }
+    {
+        match stage {
+            2 => self.inputs_counted(start, n),
+            11 => self.outputs_counted(start, n),
+            19 => self.script_counted(start, n),
+            21 => self.pegin_counted(start, n),
+            _ => self.length_settled(stage, start, n),
+        }
+    }
+
+    pub(crate) fn first_settled(self) -> Settled
+        requires { ⌜ Safe self ⌝ }
+        ensures { λ r. ⌜ r ≡ firstSettled self ⌝ }
+    {
+        let stage = self.field.stage;
+        let first = self.field.value;
+        let start = state::minus(self.taken, 1);
+        if first <= 252 {
+            self.compact_settled(stage, start, first)
+        } else {
+            self.opened(start, stage, 0, encode::announced(first))
+                .quiet()
+        }
+    }
+
+    // 3: not in shortest form.
+    pub(crate) fn further_settled(self) -> Settled
+        requires { ⌜ Safe self ⌝ }
+        ensures { λ r. ⌜ r ≡ furtherSettled self ⌝ }
+    {
+        let stage = self.field.stage;
+        let n = self.field.value;
+        let width = self.field.width;
+        let start = state::minus(state::minus(self.taken, width), 1);
+        if encode::is_shortest(width, n) {
+            self.compact_settled(stage, start, n)
+        } else {
+            self.refuse(3, start).quiet()
+        }
+    }
+}
