@@ -1,5 +1,9 @@
 pub mod Branches
+pub mod Feeds
 pub mod Laws
+pub mod Openings
+pub mod Ranges
+pub mod Settles
 pub mod Simulation
 pub mod Vout
 pub mod Walk

@@ -398,6 +398,17 @@ gather s b =
       spot = s .spot;
     }
 
+-- k bytes more, that make the value v
+abbrev pub gathered : ℕ → ℕ → State → State
+gathered k v s =
+    record {
+      field = field (s .field .stage) (s .field .form) (s .field .width) (s .field .have + k) v;
+      taken = s .taken + k;
+      sizes = s .sizes;
+      counts = s .counts;
+      spot = s .spot;
+    }
+
 abbrev pub stored : Entered → List ℕ → List ℕ
 stored e xs = cond (eqb (e .count) 0) xs ▸ cond (eqb (e .count) 1) (set xs (e .at) (e .number)) ▸ set (set xs (e .at) (e .number)) (e .at2) (e .number2)
 
