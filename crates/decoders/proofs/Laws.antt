@@ -1,12 +1,18 @@
 -- What the functions' proofs cite: the machine's definitions at each test that the code makes.
 use Prim.Native.Nat.{ℕ, _+_, _-_, _<_, _≤_}
-use mathlib.Core.Path.{_≡_, refl, sym, _∙_, ap}
+use mathlib.Core.Path.{_≡_, refl, sym, _∙_, ap, subst}
+use mathlib.Core.List.{List}
+use lib.ListN.{set}
+use Rattle.layout.specs.Outcome.{Tables}
+use Rattle.decoders.specs.declared.Entered.{Entered}
+use Rattle.decoders.specs.declared.Sizes.{Sizes}
+use Rattle.decoders.specs.Feeding.{tables, sizeBy, Storable, Enterable}
 use mathlib.Core.Bool.{Bool, true, false, cond}
 use native.Mathlib.Omega.{arith}
 use lib.Dec.{leb, ltb, eqb}
 use borrow.Author.Tests.{le-leb, lt-leb, lt-ltb, le-ltb, eq-eqb, ne-eqb}
 use Rattle.layout.specs.Transaction.{limit}
-use Rattle.decoders.specs.Machine.{State, field, withField, refuse, finished, opened, number, compact, opaque, further, itemEnds, setIndex, setItems, setLeft, nextInput, nextOutput, witnessesEnd, nextOutputWitness, nextInputWitness, nextScriptItem, nextPeginItem, bodyEnds}
+use Rattle.decoders.specs.Machine.{State, field, withField, refuse, finished, opened, number, compact, opaque, further, itemEnds, setIndex, setItems, setLeft, nextInput, nextOutput, witnessesEnd, nextOutputWitness, nextInputWitness, nextScriptItem, nextPeginItem, bodyEnds, stored, enterBy}
 
 pub opened-within : (place stage form width : ℕ) (s : State) → s .taken ≤ limit → width ≤ 4000000 - s .taken → opened place stage form width s ≡ withField (field stage form width 0 0) s
 unfolding opened
@@ -89,3 +95,43 @@ script-item s left e = ap (λ (n : ℕ). nextScriptItem (setItems (s .counts .it
 
 pub pegin-item : (s : State) (left : ℕ) → left ≡ s .spot .left - 1 → nextPeginItem (setItems (s .counts .items + 1) (setLeft left s)) ≡ nextPeginItem (itemEnds s)
 pegin-item s left e = ap (λ (n : ℕ). nextPeginItem (setItems (s .counts .items + 1) (setLeft n s))) e
+
+-- ---- stores
+
+module _ (e : Entered) (xs : List ℕ) where
+  pub stored-none : e .count ≡ 0 → xs ≡ stored e xs
+  stored-none h = rw (eq-eqb (e .count) 0 h)
+
+  pub stored-one : (e .count ≡ 0 → ⊥) → e .count ≡ 1 → set xs (e .at) (e .number) ≡ stored e xs
+  stored-one h h′ = rw (ne-eqb (e .count) 0 h, eq-eqb (e .count) 1 h′)
+
+  pub stored-two : (e .count ≡ 0 → ⊥) → (e .count ≡ 1 → ⊥) → set (set xs (e .at) (e .number)) (e .at2) (e .number2) ≡ stored e xs
+  stored-two h h′ = rw (ne-eqb (e .count) 0 h, ne-eqb (e .count) 1 h′)
+
+module _ (e : Entered) (t : Tables) (k : ℕ) where
+  pub entered-none : k ≡ 0 → t ≡ enterBy k e t
+  entered-none h = rw (eq-eqb k 0 h)
+
+  pub entered-inputs : (xs : List ℕ) → k ≡ 1 → xs ≡ stored e (t .inputs) → tables xs (t .outputs) (t .items) ≡ enterBy k e t
+  entered-inputs xs h q = ap (λ (x : List ℕ). tables x (t .outputs) (t .items)) q ∙ sym (ap (λ (n : ℕ). enterBy n e t) h)
+
+  pub entered-outputs : (xs : List ℕ) → k ≡ 2 → xs ≡ stored e (t .outputs) → tables (t .inputs) xs (t .items) ≡ enterBy k e t
+  entered-outputs xs h q = ap (λ (x : List ℕ). tables (t .inputs) x (t .items)) q ∙ sym (ap (λ (n : ℕ). enterBy n e t) h)
+
+  pub entered-items : (xs : List ℕ) → (k ≡ 0 → ⊥) → (k ≡ 1 → ⊥) → (k ≡ 2 → ⊥) → xs ≡ stored e (t .items) → tables (t .inputs) (t .outputs) xs ≡ enterBy k e t
+  entered-items xs a b c q = rw (ne-eqb k 0 a, ne-eqb k 1 b, ne-eqb k 2 c) (ap (λ (x : List ℕ). tables (t .inputs) (t .outputs) x) q)
+
+pub enterable-inputs : (e : Entered) (z : Sizes) → Enterable e z → e .table ≡ 1 → Storable e (z .inputs)
+enterable-inputs e z s h = subst (λ (k : ℕ). Storable e (sizeBy k z)) h s
+
+pub enterable-outputs : (e : Entered) (z : Sizes) → Enterable e z → e .table ≡ 2 → Storable e (z .outputs)
+enterable-outputs e z s h = subst (λ (k : ℕ). Storable e (sizeBy k z)) h s
+
+pub enterable-items : (e : Entered) (z : Sizes) → Enterable e z → (e .table ≡ 1 → ⊥) → (e .table ≡ 2 → ⊥) → Storable e (z .items)
+enterable-items e z s a b = rw (ne-eqb (e .table) 1 a, ne-eqb (e .table) 2 b) at s
+
+pub above-zero : (n : ℕ) → (n ≡ 0 → ⊥) → 0 < n
+above-zero n h = omega arith
+
+pub two-left : (n : ℕ) → n ≤ 2 → (n ≡ 0 → ⊥) → (n ≡ 1 → ⊥) → n ≡ 2
+two-left n h a b = omega arith

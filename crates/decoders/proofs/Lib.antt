@@ -1,9 +1,13 @@
+pub mod Advance
 pub mod Branches
 pub mod Feeds
+pub mod Gather
 pub mod Laws
+pub mod Loop
 pub mod Openings
 pub mod Ranges
 pub mod Settles
 pub mod Simulation
 pub mod Vout
 pub mod Walk
+pub mod Zeroing

@@ -1,5 +1,7 @@
 -- The reader's definitions: what its contracts cite.
 --     Machine   the state machine, as pure functions on the state
 --     Range     the range test of refusal 11
+--     Feeding   the promises of the public functions
 pub mod Machine
 pub mod Range
+pub mod Feeding

@@ -388,6 +388,11 @@ settle s = settleBy (s .field .form) s
 unfoldable pub worth : ℕ → ℕ → ℕ → ℕ → ℕ
 worth form value have b = cond (eqb form OPAQUE) value ▸ cond (eqb form BIG) (value * 256 + b) ▸ value + b * 256 ^ have
 
+-- and what several bytes make of it
+unfoldable pub worths : ℕ → ℕ → ℕ → List ℕ → ℕ
+worths form value have [] = value
+worths form value have (b ∷ bs) = worths form (worth form value have b) (have + 1) bs
+
 abbrev pub gather : State → ℕ → State
 gather s b =
     record {

@@ -1,10 +1,12 @@
 // The reader: `TransactionDecoder` with its fresh start, feeding and finishing, reading at once and the strict form.
 mod compact;
 mod entry;
+mod feed;
 mod prefix;
 mod records;
 mod settle;
 mod state;
+mod tables;
 
 // The field that is being gathered: its stage and form, its width in bytes, how many of them are there, and what they are worth.
 pub struct Field {
@@ -63,4 +65,35 @@ pub struct Entered {
 pub struct Settled {
     pub decoder: TransactionDecoder,
     pub entered: Entered,
+}
+
+// Beside the tables, when a reading is finished.
+pub struct Head {
+    pub version: u32,
+    pub flag: u32,
+    pub inputs: u32,
+    pub outputs: u32,
+    pub items: u32,
+    pub locktime: u32,
+    pub bytes: u32,
+}
+
+// Finished is answer 0; more wanted is a case by itself; a refusal has its number and place.
+pub enum Answer {
+    Finished(Head),
+    More,
+    Refused(usize, usize),
+}
+
+// What feeding and finishing hand back: the state, the bytes taken from the piece, the answer.
+pub struct Fed {
+    pub decoder: TransactionDecoder,
+    pub taken: usize,
+    pub answer: Answer,
+}
+
+// What reading at once hands back.
+pub struct Read {
+    pub taken: usize,
+    pub answer: Answer,
 }
