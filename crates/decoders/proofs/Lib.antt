@@ -1,6 +1,10 @@
 pub mod Advance
 pub mod Branches
+pub mod Chain
+pub mod Closing
+pub mod Entries
 pub mod Feeds
+pub mod Fresh
 pub mod Gather
 pub mod Laws
 pub mod Loop

@@ -4,7 +4,7 @@ use Prim.Native.Nat.{ℕ, _+_, _-_, _^_, _<_, _≤_, min}
 use mathlib.Core.Path.{_≡_}
 use mathlib.Core.Bool.{Bool, true, false, cond, _&&_}
 use mathlib.Core.List.{List}
-use lib.Dec.{leb, eqb}
+use lib.Dec.{leb, ltb, eqb}
 use lib.ListN.{length, take, replicate}
 use Rattle.layout.specs.Layout as layout
 use Rattle.layout.specs.Transaction as transaction
@@ -18,7 +18,7 @@ use Rattle.decoders.specs.declared.Answer.the-variants.{Finished, More, 
 use Rattle.decoders.specs.declared.Fed.{Fed}
 use Rattle.decoders.specs.declared.Read.{Read}
 use Rattle.layout.specs.Transaction.{limit}
-use Rattle.decoders.specs.Machine.{OPAQUE, State, refuse, machine, fed, answerOf, fresh}
+use Rattle.decoders.specs.Machine.{OPAQUE, State, refuse, Machine, machine, fed, answerOf, fresh}
 use Rattle.decoders.specs.Range.{inRange}
 
 -- document 01's answer as the enum has it; layout's numberOf, placeOf and headShown give its number, place and head numbers
@@ -27,6 +27,22 @@ told (layout.finished h) =
     Finished (record { version = h .version; flag = h .flag; inputs = h .inputs; outputs = h .outputs; items = h .items; locktime = h .locktime; bytes = h .bytes })
 told layout.more = More
 told (layout.refused n p) = Refused n p
+
+-- a finished state's head numbers, as the code has them
+abbrev pub headTold : State → Head
+headTold s =
+    record {
+      version = s .counts .version;
+      flag = s .counts .flag;
+      inputs = s .counts .inputs;
+      outputs = s .counts .outputs;
+      items = s .counts .items;
+      locktime = s .counts .locktime;
+      bytes = s .taken;
+    }
+
+abbrev pub sizes : ℕ → ℕ → ℕ → Sizes
+sizes i o n = record { inputs = i; outputs = o; items = n }
 
 abbrev pub tables : List ℕ → List ℕ → List ℕ → Tables
 tables i o n = record { inputs = i; outputs = o; items = n }
@@ -90,6 +106,22 @@ pub record Out : Type 0 where
 abbrev pub out : State → ℕ → Answer → Tables → Out
 out s n a t = record { fed = record { decoder = s; taken = n; answer = a }; tables = t }
 
+abbrev pub outOf : Fed → Tables → Out
+outOf r t = record { fed = r; tables = t }
+
+-- what the code needs to show a head: its numbers fit a u32
+pub record Headed (s : State) : Type 0 where
+  pub version : s .counts .version < 2 ^ 32
+  pub flag : s .counts .flag < 2 ^ 32
+  pub inputs : s .counts .inputs < 2 ^ 32
+  pub outputs : s .counts .outputs < 2 ^ 32
+  pub items : s .counts .items < 2 ^ 32
+  pub locktime : s .counts .locktime < 2 ^ 32
+  pub bytes : s .taken < 2 ^ 32
+
+pub record Closes (s : State) : Type 0 where
+  pub headed : s .field .stage ≡ 25 → Headed s
+
 -- 11 before 10: a state that fails the range test; tables of other sizes than the fresh start's
 unfoldable pub gate : State → Sizes → ℕ
 gate s z = cond (inRange s) (cond (eqb (s .sizes .inputs) (z .inputs) && eqb (s .sizes .outputs) (z .outputs) && eqb (s .sizes .items) (z .items)) 0 10) 11
@@ -97,6 +129,10 @@ gate s z = cond (inRange s) (cond (eqb (s .sizes .inputs) (z .inputs) && eqb (s 
 -- a call ends: a refused reading's tables are 0
 unfoldable pub closed : State → ℕ → Tables → Out
 closed s n t = out s n (told (answerOf s)) (cond (eqb (s .field .stage) 26) (cleared t) t)
+
+-- the fresh start
+abbrev pub begun : Tables → Machine
+begun t = machine (fresh (sizesOf t)) (cleared t)
 
 -- feeding
 unfoldable pub pushed : State → Tables → List ℕ → Out
@@ -109,6 +145,10 @@ pushed s t xs =
 unfoldable pub finish : State → State
 finish s = cond (leb 25 (s .field .stage)) s (refuse 1 (s .taken) s)
 
+-- the strict form: 9 where bytes follow
+unfoldable pub follow : ℕ → State → State
+follow there s = cond (eqb (s .field .stage) 25) (cond (ltb (s .taken) there) (refuse 9 (s .taken) s) s) s
+
 unfoldable pub ended : State → Tables → Out
 ended s t = cond (eqb (gate s (sizesOf t)) 0) (closed (finish s) 0 t) (out s 0 (Refused (gate s (sizesOf t)) 0) t)
 
@@ -120,5 +160,14 @@ pub record Whole : Type 0 where
 abbrev pub whole : outcome.Outcome → Whole
 whole o = record { read = record { taken = o .taken; answer = told (o .answer) }; tables = o .tables }
 
+abbrev pub wholeOf : Read → Tables → Whole
+wholeOf r t = record { read = r; tables = t }
+
 abbrev pub layoutSizes : Tables → outcome.Sizes
 layoutSizes t = record { inputs = length (t .inputs); outputs = length (t .outputs); items = length (t .items) }
+
+abbrev pub readOnce : Tables → List ℕ → Whole
+readOnce t xs = whole (outcome.atOnce (layoutSizes t) xs)
+
+abbrev pub readStrict : Tables → List ℕ → Whole
+readStrict t xs = whole (outcome.strict (layoutSizes t) xs)

@@ -1,0 +1,114 @@
+-- `range::kind` meets its contract: an arm is its stage's number of the list, the last what lies past its end.
+use Rattle.decoders.specs.Range.{kinds}
+use Rattle.decoders.proofs.Chain.{listed, past}
+use Rattle.decoders.proofs.range.kind.Statement.{statement}
+use Rattle.decoders.proofs.range.kind.Tie as tie
+
+returns : tie.Need-returns
+returns c = listed kinds (c .match .keys1)
+
+returns-2 : tie.Need-returns-2
+returns-2 c = listed kinds (c .match .keys2)
+
+returns-3 : tie.Need-returns-3
+returns-3 c = listed kinds (c .match .keys3)
+
+returns-4 : tie.Need-returns-4
+returns-4 c = listed kinds (c .match .keys4)
+
+returns-5 : tie.Need-returns-5
+returns-5 c = listed kinds (c .match .keys5)
+
+returns-6 : tie.Need-returns-6
+returns-6 c = listed kinds (c .match .keys6)
+
+returns-7 : tie.Need-returns-7
+returns-7 c = listed kinds (c .match .keys7)
+
+returns-8 : tie.Need-returns-8
+returns-8 c = listed kinds (c .match .keys8)
+
+returns-9 : tie.Need-returns-9
+returns-9 c = listed kinds (c .match .keys9)
+
+returns-10 : tie.Need-returns-10
+returns-10 c = listed kinds (c .match .keys10)
+
+returns-11 : tie.Need-returns-11
+returns-11 c = listed kinds (c .match .keys11)
+
+returns-12 : tie.Need-returns-12
+returns-12 c = listed kinds (c .match .keys12)
+
+returns-13 : tie.Need-returns-13
+returns-13 c = listed kinds (c .match .keys13)
+
+returns-14 : tie.Need-returns-14
+returns-14 c = listed kinds (c .match .keys14)
+
+returns-15 : tie.Need-returns-15
+returns-15 c = listed kinds (c .match .keys15)
+
+returns-16 : tie.Need-returns-16
+returns-16 c = listed kinds (c .match .keys16)
+
+returns-17 : tie.Need-returns-17
+returns-17 c = listed kinds (c .match .keys17)
+
+returns-18 : tie.Need-returns-18
+returns-18 c = listed kinds (c .match .keys18)
+
+returns-19 : tie.Need-returns-19
+returns-19 c = listed kinds (c .match .keys19)
+
+returns-20 : tie.Need-returns-20
+returns-20 c = listed kinds (c .match .keys20)
+
+returns-21 : tie.Need-returns-21
+returns-21 c = listed kinds (c .match .keys21)
+
+returns-22 : tie.Need-returns-22
+returns-22 c = listed kinds (c .match .keys22)
+
+returns-23 : tie.Need-returns-23
+returns-23 c = listed kinds (c .match .keys23)
+
+returns-24 : tie.Need-returns-24
+returns-24 c = listed kinds (c .match .keys24)
+
+returns-25 : tie.Need-returns-25
+returns-25 c = listed kinds (c .match .keys25)
+
+returns-26 : tie.Need-returns-26
+returns-26 c = past kinds _ (c .match .rest)
+
+pub kind-spec : {M : Type 1} → statement M
+kind-spec =
+    tie.close
+    (tie.spec
+    returns
+    returns-2
+    returns-3
+    returns-4
+    returns-5
+    returns-6
+    returns-7
+    returns-8
+    returns-9
+    returns-10
+    returns-11
+    returns-12
+    returns-13
+    returns-14
+    returns-15
+    returns-16
+    returns-17
+    returns-18
+    returns-19
+    returns-20
+    returns-21
+    returns-22
+    returns-23
+    returns-24
+    returns-25
+    returns-26)
