@@ -77,7 +77,7 @@ module _ (s : State) (t : Tables) (g : ℕ) (e : g ≡ gate s (sizesOf t)) where
       ∙ ap (λ (x : State). closed x 0 t) es
       ∙ sym (ap (λ (b : Bool). cond b (closed (finish s) 0 t) (out s 0 (Refused (gate s (sizesOf t)) 0) t)) (eq-eqb (gate s (sizesOf t)) 0 (sym e ∙ z)))
 
-finish-closes : (s : State) → inRange s ≡ true → inRange (finish s) ≡ true
+pub finish-closes : (s : State) → inRange s ≡ true → inRange (finish s) ≡ true
 unfolding finish
 finish-closes s h = by-cases (leb 25 (s .field .stage)) (λ q. rw q h) (λ q. rw q (finish-range s h (omega (arith, leb-false 25 (s .field .stage) q))))
 

@@ -30,7 +30,7 @@ use Rattle.decoders.proofs.Closing.{range-closes, refused-closes}
 cleared-zeros : (t : Tables) → cleared t ≡ outcome.zeros (layoutSizes t)
 cleared-zeros t = refl
 
-cleared-lengths : (t t′ : Tables) → Lengths t t′ → cleared t′ ≡ cleared t
+pub cleared-lengths : (t t′ : Tables) → Lengths t t′ → cleared t′ ≡ cleared t
 cleared-lengths t t′ l = λ i. tables (replicate (l .inputs i) 0) (replicate (l .outputs i) 0) (replicate (l .items i) 0)
 
 pub zero-lengths : (t : Tables) → Lengths t (cleared t)

@@ -12,6 +12,7 @@ pub mod Openings
 pub mod Ranges
 pub mod Settles
 pub mod Simulation
+pub mod Theorems
 pub mod Vout
 pub mod Walk
 pub mod Zeroing

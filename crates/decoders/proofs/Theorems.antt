@@ -1,0 +1,390 @@
+-- What the reader promises, as the demands and document 01 say it. All of it speaks of the definitions that the contracts cite, so
+-- nothing lies between these theorems and the code. docs/THEOREMS.md says which sentence each carries.
+use Prim.Native.Nat.{ℕ, zero, suc, _+_, _-_, _*_, _<_, _≤_}
+use mathlib.Core.Path.{_≡_, refl, sym, _∙_, ap, ap₂, subst}
+use mathlib.Core.Bool.{Bool, true, false, cond, _&&_}
+use mathlib.Core.List.{List, [], _∷_, _++_, append-assoc, append-nil}
+use native.Mathlib.Nat.{zero-add}
+use native.Mathlib.Numerals.{add-one}
+use native.Mathlib.Omega.{arith}
+use lib.Dec.{leb, ltb, eqb}
+use lib.ListN.{length, getD, replicate, length-append}
+use borrow.Author.Tests.{eq-eqb, ne-eqb, le-leb, lt-leb, eqb-true, eqb-false, leb-true, leb-false}
+use Rattle.layout.specs.Number.{Bytes}
+use Rattle.layout.specs.Layout as layout
+use Rattle.layout.specs.Layout.{Table}
+use Rattle.layout.specs.Transaction.{Head}
+use Rattle.layout.specs.Outcome as outcome
+use Rattle.layout.specs.Outcome.{Tables, Outcome, laid, shown, partial, atOnce, strict, readingOf, width, Agree}
+use Rattle.layout.proofs.Reading.{by-cases}
+use Rattle.layout.proofs.Sound.{rowsOf, counts}
+use Rattle.layout.proofs.Theorems as of-layout
+use Rattle.layout.proofs.Theorems.{tableOf}
+use Rattle.decoders.specs.declared.Sizes.{Sizes}
+use Rattle.decoders.specs.declared.Answer.{Answer}
+use Rattle.decoders.specs.declared.Answer.the-variants.{Finished, More, Refused}
+use Rattle.decoders.specs.declared.Fed.{Fed}
+use Rattle.decoders.specs.Machine.{State, refuse, answerOf, machine, Machine, fed, step, fresh, gather, entering, settle}
+use Rattle.decoders.specs.Range.{inRange}
+use Rattle.decoders.specs.Feeding.{tables, sizesOf, cleared, layoutSizes, begun, told, Out, out, outOf, gate, closed, pushed, ended, finish, Starts}
+use Rattle.decoders.proofs.Simulation.{fed-append, fed-ended}
+use Rattle.decoders.proofs.Feeds.{Lengths, fed-range, fed-sizes, fed-lengths, settle-taken}
+use Rattle.decoders.proofs.Ranges.{fresh-range, finish-range, by-stage}
+use Rattle.decoders.proofs.Fresh.{reading, after, reads, after-range, after-cleared, cleared-lengths, zero-lengths, closed-shows, answer-finish, finish-taken}
+use Rattle.decoders.proofs.Entries.{gate-starts, finish-closes}
+
+-- ---- demand 1: it never trusts the caller
+
+-- the gate's numbers: 0, 10 or 11
+gate-bools : (b c : Bool) → (_≡_ {A = ℕ} (cond b (cond c 0 10) 11) 0 → ⊥) → 10 ≤ cond b (cond c 0 10) 11
+gate-bools true true h = absurd (h refl)
+gate-bools true false h = omega arith
+gate-bools false c h = omega arith
+
+not-eleven : (c : Bool) → _≡_ {A = ℕ} (cond c 0 10) 11 → ⊥
+not-eleven true e = omega arith
+not-eleven false e = omega arith
+
+gate-numbers : (s : State) (z : Sizes) → (gate s z ≡ 0 → ⊥) → 10 ≤ gate s z
+unfolding gate
+gate-numbers s z h = gate-bools (inRange s) (eqb (s .sizes .inputs) (z .inputs) && eqb (s .sizes .outputs) (z .outputs) && eqb (s .sizes .items) (z .items)) h
+
+-- 10 and 11 change neither state nor tables, and take nothing
+pub misuse-untouched : (s : State) (t : Tables) (xs : List ℕ) → (gate s (sizesOf t) ≡ 0 → ⊥) → pushed s t xs ≡ out s 0 (Refused (gate s (sizesOf t)) 0) t
+unfolding pushed
+misuse-untouched s t xs h = rw (ne-eqb (gate s (sizesOf t)) 0 h)
+
+pub misuse-untouched-end : (s : State) (t : Tables) → (gate s (sizesOf t) ≡ 0 → ⊥) → ended s t ≡ out s 0 (Refused (gate s (sizesOf t)) 0) t
+unfolding ended
+misuse-untouched-end s t h = rw (ne-eqb (gate s (sizesOf t)) 0 h)
+
+-- 11 is given exactly to a state that fails the range test, and before 10
+pub eleven-first : (s : State) (z : Sizes) → inRange s ≡ false → gate s z ≡ 11
+unfolding gate
+eleven-first s z e = rw e
+
+pub eleven-never : (s : State) (z : Sizes) → inRange s ≡ true → gate s z ≡ 11 → ⊥
+unfolding gate
+eleven-never s z e h = not-eleven (eqb (s .sizes .inputs) (z .inputs) && eqb (s .sizes .outputs) (z .outputs) && eqb (s .sizes .items) (z .items)) (rw e at h)
+
+-- what a call that is not misused gives
+pushed-open : (s : State) (t : Tables) (xs : List ℕ) → gate s (sizesOf t) ≡ 0 → pushed s t xs ≡ closed (fed (machine s t) xs .state) (fed (machine s t) xs .state .taken - s .taken) (fed (machine s t) xs .tables)
+unfolding pushed
+pushed-open s t xs e = rw (eq-eqb (gate s (sizesOf t)) 0 e)
+
+ended-open : (s : State) (t : Tables) → gate s (sizesOf t) ≡ 0 → ended s t ≡ closed (finish s) 0 t
+unfolding ended
+ended-open s t e = rw (eq-eqb (gate s (sizesOf t)) 0 e)
+
+-- a refusal is stage 26
+finished-not-refused : (h : _) (n p : ℕ) → _≡_ {A = Answer} (Finished h) (Refused n p) → ⊥
+finished-not-refused h n p e = let z : _≡_ {A = ℕ} 0 1 = cc in omega arith
+
+more-not-refused : (n p : ℕ) → _≡_ {A = Answer} More (Refused n p) → ⊥
+more-not-refused n p e = let z : _≡_ {A = ℕ} 0 1 = cc in omega arith
+
+refused-stage : (s : State) (n p : ℕ) → told (answerOf s) ≡ Refused n p → eqb (s .field .stage) 26 ≡ true
+unfolding answerOf
+refused-stage s n p e =
+    by-cases (eqb (s .field .stage) 26) (λ q. q)
+    (λ q. by-cases (eqb (s .field .stage) 25)
+    (λ r. absurd (finished-not-refused _ n p (rw r at e)))
+    (λ r. absurd (more-not-refused n p (rw (r, q) at e))))
+
+closed-zero : (s : State) (k : ℕ) (t : Tables) (n p : ℕ) → closed s k t .fed .answer ≡ Refused n p → closed s k t .tables ≡ cleared t
+unfolding closed
+closed-zero s k t n p e = rw (refused-stage s n p e)
+
+same-number : (n m p q : ℕ) → _≡_ {A = Answer} (Refused n p) (Refused m q) → n ≡ m
+same-number n m p q e = cc
+
+-- a refused reading leaves every number of the lent tables 0
+pub refused-zero : (s : State) (t : Tables) (xs : List ℕ) (n p : ℕ) → pushed s t xs .fed .answer ≡ Refused n p → n ≤ 9 → pushed s t xs .tables ≡ cleared t
+refused-zero s t xs n p e small =
+    by-cases (eqb (gate s (sizesOf t)) 0)
+    (λ g. let o = pushed-open s t xs (eqb-true (gate s (sizesOf t)) 0 g) in
+    ap (λ (x : Out). x .tables) o
+    ∙ closed-zero (fed (machine s t) xs .state) _ (fed (machine s t) xs .tables) n p (sym (ap (λ (x : Out). x .fed .answer) o) ∙ e)
+    ∙ cleared-lengths t (fed (machine s t) xs .tables) (fed-lengths (machine s t) xs))
+    (λ g. let h = eqb-false (gate s (sizesOf t)) 0 g in
+    let m = same-number (gate s (sizesOf t)) n 0 p (sym (ap (λ (x : Out). x .fed .answer) (misuse-untouched s t xs h)) ∙ e) in
+    absurd (omega (arith, m, gate-numbers s (sizesOf t) h)))
+
+pub refused-zero-end : (s : State) (t : Tables) (n p : ℕ) → ended s t .fed .answer ≡ Refused n p → n ≤ 9 → ended s t .tables ≡ cleared t
+refused-zero-end s t n p e small =
+    by-cases (eqb (gate s (sizesOf t)) 0)
+    (λ g. let o = ended-open s t (eqb-true (gate s (sizesOf t)) 0 g) in
+    ap (λ (x : Out). x .tables) o ∙ closed-zero (finish s) 0 t n p (sym (ap (λ (x : Out). x .fed .answer) o) ∙ e))
+    (λ g. let h = eqb-false (gate s (sizesOf t)) 0 g in
+    let m = same-number (gate s (sizesOf t)) n 0 p (sym (ap (λ (x : Out). x .fed .answer) (misuse-untouched-end s t h)) ∙ e) in
+    absurd (omega (arith, m, gate-numbers s (sizesOf t) h)))
+
+-- every state that a fresh start or a call on a state within its range returns is within its range
+pub range-kept : (s : State) (t : Tables) (xs : List ℕ) → Bytes xs → inRange s ≡ true → inRange (pushed s t xs .fed .decoder) ≡ true
+unfolding closed
+range-kept s t xs q r =
+    by-cases (eqb (gate s (sizesOf t)) 0)
+    (λ g. subst (λ (x : Out). inRange (x .fed .decoder) ≡ true) (sym (pushed-open s t xs (eqb-true (gate s (sizesOf t)) 0 g))) (fed-range (machine s t) xs q r))
+    (λ g. subst (λ (x : Out). inRange (x .fed .decoder) ≡ true) (sym (misuse-untouched s t xs (eqb-false (gate s (sizesOf t)) 0 g))) r)
+
+pub range-kept-end : (s : State) (t : Tables) → inRange s ≡ true → inRange (ended s t .fed .decoder) ≡ true
+unfolding closed
+range-kept-end s t r =
+    by-cases (eqb (gate s (sizesOf t)) 0)
+    (λ g. subst (λ (x : Out). inRange (x .fed .decoder) ≡ true) (sym (ended-open s t (eqb-true (gate s (sizesOf t)) 0 g))) (finish-closes s r))
+    (λ g. subst (λ (x : Out). inRange (x .fed .decoder) ≡ true) (sym (misuse-untouched-end s t (eqb-false (gate s (sizesOf t)) 0 g))) r)
+
+pub range-fresh : (t : Tables) → inRange (begun t .state) ≡ true
+range-fresh t = fresh-range (sizesOf t)
+
+-- an ended reading takes no more and repeats its answer, in feeding and finishing
+none-taken : (n : ℕ) → n - n ≡ 0
+none-taken n = omega arith
+
+pub ended-repeats : (s : State) (t : Tables) (xs : List ℕ) → gate s (sizesOf t) ≡ 0 → 25 ≤ s .field .stage → pushed s t xs ≡ closed s 0 t
+ended-repeats s t xs g h =
+    pushed-open s t xs g
+    ∙ ap (λ (m : Machine). closed (m .state) (m .state .taken - s .taken) (m .tables)) (fed-ended (machine s t) xs h)
+    ∙ ap (λ (n : ℕ). closed s n t) (none-taken (s .taken))
+
+pub ended-repeats-end : (s : State) (t : Tables) → gate s (sizesOf t) ≡ 0 → 25 ≤ s .field .stage → ended s t ≡ closed s 0 t
+unfolding finish
+ended-repeats-end s t g h = ended-open s t g ∙ ap (λ (x : State). closed x 0 t) (rw (le-leb 25 (s .field .stage) h))
+
+-- ---- feeding: pieces
+
+-- while more is wanted a piece is taken entire
+step-one : (s : State) (t : Tables) (b : ℕ) → s .field .stage < 25 → step (machine s t) b .state .taken ≡ s .taken + 1
+unfolding step entering
+step-one s t b h =
+    by-cases (eqb (s .field .have + 1) (s .field .width))
+    (λ e. rw (lt-leb 25 (s .field .stage) h, e) (settle-taken (gather s b)))
+    (λ e. rw (lt-leb 25 (s .field .stage) h, e))
+
+fed-entire : (xs : List ℕ) (m : Machine) → fed m xs .state .field .stage < 25 → fed m xs .state .taken ≡ m .state .taken + length xs
+unfolding fed
+fed-entire [] m h = omega arith
+fed-entire (b ∷ xs) m h =
+    by-cases (leb 25 (m .state .field .stage))
+    (λ l. absurd (stays m (b ∷ xs) (leb-true 25 (m .state .field .stage) l) h))
+    (λ l. omega (arith, fed-entire xs (step m b) h, step-one (m .state) (m .tables) b (leb-false 25 (m .state .field .stage) l)))
+  where
+    stays : (m′ : Machine) (ys : List ℕ) → 25 ≤ m′ .state .field .stage → fed m′ ys .state .field .stage < 25 → ⊥
+    stays m′ ys l k = omega (arith, subst (λ (x : Machine). x .state .field .stage < 25) (fed-ended m′ ys l) k)
+
+finished-not-more : (h : _) → _≡_ {A = Answer} (Finished h) More → ⊥
+finished-not-more h e = let z : _≡_ {A = ℕ} 0 1 = cc in omega arith
+
+more-runs : (s : State) → inRange s ≡ true → told (answerOf s) ≡ More → s .field .stage < 25
+unfolding answerOf
+more-runs s r e =
+    by-stage s r
+    (λ o. omega (arith, o .stage))
+    (λ q _. absurd (finished-not-more _ (rw (eq-eqb (s .field .stage) 25 q) at e)))
+    (λ q _. let n : s .field .stage ≡ 25 → ⊥ = λ p. omega arith in absurd (more-not-refused _ _ (sym (rw (ne-eqb (s .field .stage) 25 n, eq-eqb (s .field .stage) 26 q) at e))))
+
+pub piece-entire : (s : State) (t : Tables) (xs : List ℕ) → Bytes xs → pushed s t xs .fed .answer ≡ More → pushed s t xs .fed .taken ≡ length xs
+unfolding closed
+piece-entire s t xs q e =
+    by-cases (eqb (gate s (sizesOf t)) 0)
+    (λ g. let z = eqb-true (gate s (sizesOf t)) 0 g in
+    let o = pushed-open s t xs z in
+    let runs = more-runs (fed (machine s t) xs .state) (fed-range (machine s t) xs q (gate-starts s t (gate s (sizesOf t)) refl z .range)) (sym (ap (λ (x : Out). x .fed .answer) o) ∙ e) in
+    ap (λ (x : Out). x .fed .taken) o ∙ omega (arith, fed-entire xs (machine s t) runs))
+    (λ g. absurd (more-not-refused _ _ (sym (sym (ap (λ (x : Out). x .fed .answer) (misuse-untouched s t xs (eqb-false (gate s (sizesOf t)) 0 g))) ∙ e))))
+
+-- while more is wanted an empty piece changes nothing
+pub empty-nothing : (s : State) (t : Tables) → gate s (sizesOf t) ≡ 0 → s .field .stage < 25 → pushed s t [] ≡ out s 0 More t
+unfolding fed closed answerOf
+empty-nothing s t g h =
+    let a : s .field .stage ≡ 25 → ⊥ = λ p. omega arith in
+    let b : s .field .stage ≡ 26 → ⊥ = λ p. omega arith in
+    pushed-open s t [] g ∙ ap (λ (n : ℕ). closed s n t) (none-taken (s .taken)) ∙ rw (ne-eqb (s .field .stage) 25 a, ne-eqb (s .field .stage) 26 b)
+
+-- ---- demand 3: from a fresh start, whatever the pieces
+
+unfoldable pub join : List (List ℕ) → List ℕ
+join [] = []
+join (p ∷ ps) = p ++ join ps
+
+-- the state and tables after feeding pieces, state and tables handed on unchanged
+pub record Held : Type 0 where
+  pub state : State
+  pub tables : Tables
+
+abbrev pub handed : Out → Held
+handed o = record { state = o .fed .decoder; tables = o .tables }
+
+unfoldable pub feeding : Held → List (List ℕ) → Held
+feeding h [] = h
+feeding h (p ∷ ps) = feeding (handed (pushed (h .state) (h .tables) p)) ps
+
+abbrev pub started : Tables → Held
+started t = record { state = begun t .state; tables = begun t .tables }
+
+-- what is held after the bytes xs: 01's reading of them, partial tables included
+abbrev pub Holds : Tables → (xs : List ℕ) → Bytes xs → Held → Type 0
+Holds t xs q h = (h .state ≡ after t xs q .state) × (h .tables ≡ partial (layoutSizes t) xs .tables)
+
+-- a call that ends where the bytes xs lead shows 01's reading of them
+shows : (t : Tables) (xs : List ℕ) (q : Bytes xs) (n : ℕ) → closed (after t xs q .state) n (after t xs q .tables) ≡ out (after t xs q .state) n (told (partial (layoutSizes t) xs .answer)) (partial (layoutSizes t) xs .tables)
+shows t xs q n =
+    closed-shows (after t xs q .state) n (after t xs q .tables) (cleared t) _ (reads t xs q .answer) (after-cleared t xs q)
+    ∙ ap (λ (x : Tables). out (after t xs q .state) n (told (reading t xs q .answer)) (shown (reading t xs q .answer) x (cleared t))) (reads t xs q .tables)
+
+-- the gate lets such a state through
+gate-zero : (s : State) (z : Sizes) → inRange s ≡ true → s .sizes ≡ z → gate s z ≡ 0
+unfolding gate
+gate-zero s z r e =
+    rw (r, eq-eqb (s .sizes .inputs) (z .inputs) (ap (λ (x : Sizes). x .inputs) e), eq-eqb (s .sizes .outputs) (z .outputs) (ap (λ (x : Sizes). x .outputs) e), eq-eqb (s .sizes .items) (z .items) (ap (λ (x : Sizes). x .items) e))
+
+sizes-same : (t t′ : Tables) → Lengths t t′ → sizesOf t ≡ sizesOf t′
+sizes-same t t′ l = λ i. record { inputs = sym (l .inputs) i; outputs = sym (l .outputs) i; items = sym (l .items) i }
+
+then-lengths : (t t′ t″ : Tables) → Lengths t t′ → Lengths t′ t″ → Lengths t t″
+then-lengths t t′ t″ a b = record { inputs = b .inputs ∙ a .inputs; outputs = b .outputs ∙ a .outputs; items = b .items ∙ a .items }
+
+cond-lengths : (b : Bool) (t t′ t″ : Tables) → Lengths t t′ → Lengths t t″ → Lengths t (cond b t′ t″)
+cond-lengths true t t′ t″ a c = a
+cond-lengths false t t′ t″ a c = c
+
+shown-finish : (a : layout.Answer Head) (n : ℕ) (t z : Tables) → shown (outcome.finish a n) (shown a t z) z ≡ shown (outcome.finish a n) t z
+shown-finish (layout.finished h) n t z = refl
+shown-finish layout.more n t z = refl
+shown-finish (layout.refused m p) n t z = refl
+
+-- of a refused state's tables only the lengths count
+closed-either : (s : State) (n : ℕ) (t t′ : Tables) → eqb (s .field .stage) 26 ≡ true → cleared t ≡ cleared t′ → closed s n t ≡ closed s n t′
+unfolding closed
+closed-either s n t t′ e c = rw e (ap (λ (x : Tables). out s n (told (answerOf s)) x) c)
+
+module _ (t : Tables) (xs : List ℕ) (q : Bytes xs) where
+  abbrev left : Tables
+  left = after t xs q .tables
+
+  left-lengths : Lengths t left
+  left-lengths = then-lengths t (cleared t) left (zero-lengths t) (fed-lengths (begun t) xs)
+
+  partial-as : partial (layoutSizes t) xs .tables ≡ cond (eqb (after t xs q .state .field .stage) 26) (cleared left) left
+  unfolding closed
+  partial-as = sym (ap (λ (o : Out). o .tables) (shows t xs q 0))
+
+  partial-lengths : Lengths t (partial (layoutSizes t) xs .tables)
+  partial-lengths = subst (λ (x : Tables). Lengths t x) (sym partial-as) (cond-lengths (eqb (after t xs q .state .field .stage) 26) t (cleared left) left (then-lengths t left (cleared left) left-lengths (zero-lengths left)) left-lengths)
+
+  taken-as : after t xs q .state .taken ≡ partial (layoutSizes t) xs .taken
+  taken-as = reads t xs q .taken ∙ zero-add (reading t xs q .taken)
+
+  pub held-passes : gate (after t xs q .state) (sizesOf (partial (layoutSizes t) xs .tables)) ≡ 0
+  held-passes = gate-zero (after t xs q .state) (sizesOf (partial (layoutSizes t) xs .tables)) (after-range t xs q) (fed-sizes (begun t) xs ∙ sizes-same t (partial (layoutSizes t) xs .tables) partial-lengths)
+
+  -- one more piece
+  module _ (p : List ℕ) (q′ : Bytes (xs ++ p)) where
+    goes-on : fed (after t xs q) p ≡ after t (xs ++ p) q′
+    goes-on = sym (fed-append (begun t) xs p)
+
+    closes-alike : (n : ℕ) → closed (fed (machine (after t xs q .state) (partial (layoutSizes t) xs .tables)) p .state) n (fed (machine (after t xs q .state) (partial (layoutSizes t) xs .tables)) p .tables) ≡ closed (after t (xs ++ p) q′ .state) n (after t (xs ++ p) q′ .tables)
+    closes-alike n =
+        by-cases (eqb (after t xs q .state .field .stage) 26)
+        (λ e. let over : 25 ≤ after t xs q .state .field .stage = omega (arith, eqb-true (after t xs q .state .field .stage) 26 e) in
+        ap (λ (m : Machine). closed (m .state) n (m .tables)) (fed-ended (machine (after t xs q .state) (partial (layoutSizes t) xs .tables)) p over)
+        ∙ closed-either (after t xs q .state) n (partial (layoutSizes t) xs .tables) left e (cleared-lengths t (partial (layoutSizes t) xs .tables) partial-lengths ∙ sym (cleared-lengths t left left-lengths))
+        ∙ sym (ap (λ (m : Machine). closed (m .state) n (m .tables)) (sym goes-on ∙ fed-ended (after t xs q) p over)))
+        (λ e. ap (λ (x : Tables). closed (fed (machine (after t xs q .state) x) p .state) n (fed (machine (after t xs q .state) x) p .tables)) (partial-as ∙ rw e)
+        ∙ ap (λ (m : Machine). closed (m .state) n (m .tables)) goes-on)
+
+    state-alike : fed (machine (after t xs q .state) (partial (layoutSizes t) xs .tables)) p .state ≡ after t (xs ++ p) q′ .state
+    unfolding closed
+    state-alike = ap (λ (o : Out). o .fed .decoder) (closes-alike 0)
+
+    -- a call's answer, the bytes it took and its tables are those of 01's reading of all bytes so far
+    pub call-reads : pushed (after t xs q .state) (partial (layoutSizes t) xs .tables) p ≡ out (after t (xs ++ p) q′ .state) (partial (layoutSizes t) (xs ++ p) .taken - partial (layoutSizes t) xs .taken) (told (partial (layoutSizes t) (xs ++ p) .answer)) (partial (layoutSizes t) (xs ++ p) .tables)
+    call-reads =
+        pushed-open (after t xs q .state) (partial (layoutSizes t) xs .tables) p held-passes
+        ∙ closes-alike _
+        ∙ shows t (xs ++ p) q′ _
+        ∙ ap₂ (λ (m n : ℕ). out (after t (xs ++ p) q′ .state) (m - n) (told (partial (layoutSizes t) (xs ++ p) .answer)) (partial (layoutSizes t) (xs ++ p) .tables)) (ap (λ (s : State). s .taken) state-alike ∙ after-taken) taken-as
+      where
+        after-taken : after t (xs ++ p) q′ .state .taken ≡ partial (layoutSizes t) (xs ++ p) .taken
+        after-taken = reads t (xs ++ p) q′ .taken ∙ zero-add (reading t (xs ++ p) q′ .taken)
+
+  -- finishing gives 01's outcome
+  pub finish-reads : ended (after t xs q .state) (partial (layoutSizes t) xs .tables) ≡ out (finish (after t xs q .state)) 0 (told (atOnce (layoutSizes t) xs .answer)) (atOnce (layoutSizes t) xs .tables)
+  finish-reads = ended-open (after t xs q .state) (partial (layoutSizes t) xs .tables) held-passes
+      ∙ closed-shows (finish (after t xs q .state)) 0 (partial (layoutSizes t) xs .tables) (cleared t) (atOnce (layoutSizes t) xs .answer)
+      (answer-finish (after t xs q .state) (after-range t xs q) ∙ ap₂ (λ (a : layout.Answer Head) (n : ℕ). outcome.finish a n) (reads t xs q .answer) taken-as)
+      (cleared-lengths t (partial (layoutSizes t) xs .tables) partial-lengths)
+      ∙ ap (λ (x : Tables). out (finish (after t xs q .state)) 0 (told (atOnce (layoutSizes t) xs .answer)) x) (shown-finish (reading t xs q .answer) (reading t xs q .taken) (laid (reading t xs q .log) (cleared t)) (cleared t))
+
+-- all bytes of a longer list are bytes
+bytes-front : (xs ys : List ℕ) → Bytes (xs ++ ys) → Bytes xs
+bytes-front [] ys q i = omega arith
+bytes-front (x ∷ xs) ys q zero = q zero
+bytes-front (x ∷ xs) ys q (suc i) = bytes-front xs ys (λ j. q (suc j)) i
+
+feeding-holds : (ps : List (List ℕ)) (t : Tables) (xs : List ℕ) (q : Bytes xs) (h : Held) → Holds t xs q h → (q′ : Bytes (xs ++ join ps)) → Holds t (xs ++ join ps) q′ (feeding h ps)
+unfolding feeding join
+feeding-holds [] t xs q h w q′ = subst (λ (ys : List ℕ). (h .state ≡ fed (begun t) ys .state) × (h .tables ≡ partial (layoutSizes t) ys .tables)) (sym (append-nil xs)) w
+feeding-holds (p ∷ ps) t xs q h w q′ =
+    let q″ : Bytes ((xs ++ p) ++ join ps) = subst Bytes (sym (append-assoc xs p (join ps))) q′ in
+    let qp : Bytes (xs ++ p) = bytes-front (xs ++ p) (join ps) q″ in
+    let o : pushed (h .state) (h .tables) p ≡ _ = ap₂ (λ (s : State) (x : Tables). pushed s x p) (w .0) (w .1) ∙ call-reads t xs q p qp in
+    subst (λ (ys : List ℕ). (feeding h (p ∷ ps) .state ≡ fed (begun t) ys .state) × (feeding h (p ∷ ps) .tables ≡ partial (layoutSizes t) ys .tables)) (append-assoc xs p (join ps))
+    (feeding-holds ps t (xs ++ p) qp (handed (pushed (h .state) (h .tables) p)) (ap (λ (x : Out). x .fed .decoder) o, ap (λ (x : Out). x .tables) o) q″)
+
+begun-holds : (t : Tables) (q : Bytes []) → Holds t [] q (started t)
+unfolding fed
+begun-holds t q = (refl, sym (partial-as t [] q ∙ refl))
+
+-- the state and tables after feeding any pieces from a fresh start
+pub feeding-held : (t : Tables) (ps : List (List ℕ)) (q : Bytes (join ps)) → Holds t (join ps) q (feeding (started t) ps)
+feeding-held t ps q = feeding-holds ps t [] (λ i. omega arith) (started t) (begun-holds t (λ i. omega arith)) q
+
+-- after EVERY call: answer, bytes taken and tables, partial tables included, are those of 01's reading of the joined bytes so far
+pub feeding-reads : (t : Tables) (ps : List (List ℕ)) (p : List ℕ) (q : Bytes (join ps ++ p)) → let h = feeding (started t) ps in let o = pushed (h .state) (h .tables) p in (o .fed .answer ≡ told (partial (layoutSizes t) (join ps ++ p) .answer)) × (o .fed .taken ≡ partial (layoutSizes t) (join ps ++ p) .taken - partial (layoutSizes t) (join ps) .taken) × (o .tables ≡ partial (layoutSizes t) (join ps ++ p) .tables)
+feeding-reads t ps p q =
+    let w = feeding-held t ps (bytes-front (join ps) p q) in
+    let o = ap₂ (λ (s : State) (x : Tables). pushed s x p) (w .0) (w .1) ∙ call-reads t (join ps) (bytes-front (join ps) p q) p q in
+    (ap (λ (x : Out). x .fed .answer) o, ap (λ (x : Out). x .fed .taken) o, ap (λ (x : Out). x .tables) o)
+
+-- what a reading ends with: answer (with its place), count of bytes taken in all, and the tables
+pub record Ends (o : Out) (w : Outcome) : Type 0 where
+  pub answer : o .fed .answer ≡ told (w .answer)
+  pub taken : o .fed .decoder .taken ≡ w .taken
+  pub tables : o .tables ≡ w .tables
+
+abbrev pub finished : Held → Out
+finished h = ended (h .state) (h .tables)
+
+pub finishing-reads : (t : Tables) (ps : List (List ℕ)) (q : Bytes (join ps)) → Ends (finished (feeding (started t) ps)) (atOnce (layoutSizes t) (join ps))
+finishing-reads t ps q =
+    let w = feeding-held t ps q in
+    let o = ap₂ ended (w .0) (w .1) ∙ finish-reads t (join ps) q in
+    record {
+      answer = ap (λ (x : Out). x .fed .answer) o;
+      taken = ap (λ (x : Out). x .fed .decoder .taken) o ∙ finish-taken (after t (join ps) q .state) ∙ taken-as t (join ps) q;
+      tables = ap (λ (x : Out). x .tables) o;
+    }
+
+-- demand 3, word for word: two inputs of one length that agree at each bearing byte of the first, each fed from a fresh start into
+-- tables of equal sizes, each cut anywhere in its own way, state and tables handed on unchanged, then finished, end with the same
+-- answer, place, count of bytes taken and numbers in every table, namely those of 01's reading
+pub demand-3 : (t t′ : Tables) (ps ps′ : List (List ℕ)) → layoutSizes t ≡ layoutSizes t′ → Agree (layoutSizes t) (join ps) (join ps′) → (q : Bytes (join ps)) (q′ : Bytes (join ps′)) → Ends (finished (feeding (started t) ps)) (atOnce (layoutSizes t) (join ps)) × Ends (finished (feeding (started t′) ps′)) (atOnce (layoutSizes t) (join ps))
+demand-3 t t′ ps ps′ e a q q′ = (
+  finishing-reads t ps q,
+  subst (λ (w : Outcome). Ends (finished (feeding (started t′) ps′)) w) (sym (of-layout.blind-at-once (layoutSizes t) (join ps) (join ps′) a ∙ ap (λ (z : outcome.Sizes). atOnce z (join ps′)) e)) (finishing-reads t′ ps′ q′),
+)
+
+-- after its last byte a reading is finished at once
+pub ends-at-once : (t : Tables) (ps : List (List ℕ)) (p : List ℕ) (q : Bytes (join ps ++ p)) (h : Head) → readingOf (layoutSizes t) (join ps ++ p) .answer ≡ layout.finished h → let d = feeding (started t) ps in pushed (d .state) (d .tables) p .fed .answer ≡ told (layout.finished h)
+ends-at-once t ps p q h e = feeding-reads t ps p q .0 ∙ ap told e
+
+-- a finished reading leaves 0 behind its last record, in all three tables, surplus numbers included
+pub finished-zero-behind : (t : Tables) (ps : List (List ℕ)) (q : Bytes (join ps)) (h : Head) → readingOf (layoutSizes t) (join ps) .answer ≡ layout.finished h → (k : Table) (j : ℕ) → width k * rowsOf k (counts h) ≤ j → getD (tableOf k (feeding (started t) ps .tables)) j 0 ≡ 0
+finished-zero-behind t ps q h e k j past =
+    ap (λ (x : Tables). getD (tableOf k x) j 0) (feeding-held t ps q .1) ∙ of-layout.zero-behind (layoutSizes t) (join ps) q h e k j past
+
+-- ---- any two outcomes that a promise allows are equal; `Post` is the promise as the check reads it off the function's clauses
+
+pub one-outcome : {X : Type 0} (a b w : X) → a ≡ w → b ≡ w → a ≡ b
+one-outcome a b w p q = p ∙ sym q
