@@ -3,6 +3,7 @@ use Prim.Native.Nat.{ℕ, zero, suc, _+_, _-_, _*_, _^_, _<_, _≤_}
 use mathlib.Core.Path.{_≡_, refl, sym, _∙_, ap, ap₂, subst}
 use mathlib.Core.Bool.{Bool, true, false, cond, not, _&&_}
 use mathlib.Core.List.{List, [], _∷_, _++_}
+use mathlib.Core.Option.{some, none}
 use native.Mathlib.Nat.{zero-add, mul-suc, mul-le-mul-left, le-trans}
 use native.Mathlib.Omega.{arith}
 use lib.Dec.{ltb, lit<}
@@ -12,10 +13,10 @@ use borrow.Author.Tests.{ltb-true, ltb-false, lt-ltb}
 use Rattle.layout.specs.Number.{Bytes}
 use Rattle.layout.specs.Layout.{Layout, Answer, finished, more, refused, Reading, reading, Entry, Table, input, output, item, run, hides}
 use Rattle.layout.specs.Transaction.{Head, Room, limit, transaction}
-use Rattle.layout.specs.Outcome.{Tables, Sizes, width, roomOf, zeros, change, lay, laid, Outcome, shown, outcome, readingOf, partial, finish, ended, atOnce, follow, strictly, strict, bears, Bearing, Agree}
+use Rattle.layout.specs.Outcome.{Tables, Sizes, width, roomOf, zeros, change, lay, laid, Outcome, shown, outcome, readingOf, partial, finish, ended, atOnce, follow, strictly, strict, bears, Bearing, Agree, numberOf, placeOf, headShown, noHead}
 use Rattle.layout.proofs.Reading as reading-laws
 use Rattle.layout.proofs.Reading.{chain, rest, finished-not-more}
-use Rattle.layout.proofs.Sound.{Each, Fair, Inside, Kept, Done, Rows, rowsOf, counts, rows, endOf, transaction-kept}
+use Rattle.layout.proofs.Sound.{Each, Fair, Inside, Kept, Done, Rows, AtMost, rowsOf, counts, rows, endOf, transaction-kept}
 
 -- ---- demand 3's second half
 
@@ -58,11 +59,32 @@ one-byte-more z xs e = ap (λ a. finish a (readingOf z xs .taken)) e ∙ ap (λ 
 room-small : (z : Sizes) → roomOf z .items < 2 ^ 32
 room-small z = omega arith
 
-keeps : (z : Sizes) (xs : List ℕ) → Bytes xs → Kept 0 (rows 0 0 0) 0 (readingOf z xs)
-keeps z xs h = transaction-kept (roomOf z) (room-small z) xs h
+abbrev roomRows : Sizes → Rows
+roomRows z = rows (roomOf z .inputs) (roomOf z .outputs) (roomOf z .items)
+
+keeps : (z : Sizes) (xs : List ℕ) → Bytes xs → Kept (roomRows z) 0 (rows 0 0 0) 0 (readingOf z xs)
+keeps z xs h = transaction-kept (roomRows z) (roomOf z) (room-small z) (omega arith) xs h
 
 pub taken-limit : (z : Sizes) (xs : List ℕ) → Bytes xs → readingOf z xs .taken ≤ limit
 taken-limit z xs h = omega (arith, keeps z xs h .limited)
+
+-- a refusal's number is 2 to 8 (1 and 9 are finish's and the strict form's), and its place is no further than the bytes taken
+pub refusal-placed : (z : Sizes) (xs : List ℕ) → Bytes xs → (n p : ℕ) → readingOf z xs .answer ≡ refused n p → (2 ≤ n) × (n ≤ 8) × (p ≤ readingOf z xs .taken)
+refusal-placed z xs h n p e = let k = keeps z xs h .placed n p e in omega (arith, k)
+
+-- after a refusal every table is 0, and no head number shows
+refused-shown : (a : Answer Head) (t z : Tables) (n p : ℕ) → a ≡ refused n p → shown a t z ≡ z
+refused-shown a t z n p e = ap (λ (x : Answer Head). shown x t z) e
+
+pub refused-zero-at-once : (z : Sizes) (xs : List ℕ) (n p : ℕ) → atOnce z xs .answer ≡ refused n p → (atOnce z xs .tables ≡ zeros z) × (headShown (atOnce z xs .answer) ≡ noHead)
+refused-zero-at-once z xs n p e = (refused-shown (atOnce z xs .answer) _ (zeros z) n p e, ap headShown e)
+
+pub refused-zero-strict : (z : Sizes) (xs : List ℕ) (n p : ℕ) → strict z xs .answer ≡ refused n p → (strict z xs .tables ≡ zeros z) × (headShown (strict z xs .answer) ≡ noHead)
+refused-zero-strict z xs n p e = (refused-shown (strict z xs .answer) _ (zeros z) n p e, ap headShown e)
+
+-- finished is answer 0 at place 0; more wanted has no number and place 0; a refusal has its own
+pub answer-numbers : (h : Head) (n p : ℕ) → (numberOf (finished h) ≡ some 0) × (placeOf (finished h) ≡ 0) × (numberOf {A = Head} more ≡ none) × (placeOf {A = Head} more ≡ 0) × (numberOf {A = Head} (refused n p) ≡ some n) × (placeOf {A = Head} (refused n p) ≡ p)
+answer-numbers h n p = (refl, refl, refl, refl, refl, refl)
 
 -- every entry stays in its record, and its numbers are below 2^32
 pub entries-fair : (z : Sizes) (xs : List ℕ) → Bytes xs → Each Fair (readingOf z xs .log)
@@ -77,14 +99,18 @@ each-map f [] u = tt
 each-map f (x ∷ l) u = (f x (u .0), each-map f l (u .1))
 
 module _ (z : Sizes) (xs : List ℕ) (bytes : Bytes xs) (h : Head) (e : readingOf z xs .answer ≡ finished h) where
-  finished-done : Done 0 (rows 0 0 0) (readingOf z xs .taken) h (readingOf z xs .log)
-  finished-done = subst (λ n. Done 0 (rows 0 0 0) n h (readingOf z xs .log)) (zero-add (readingOf z xs .taken)) (keeps z xs bytes .done h e)
+  finished-done : Done (roomRows z) 0 (rows 0 0 0) (readingOf z xs .taken) h (readingOf z xs .log)
+  finished-done = subst (λ n. Done (roomRows z) 0 (rows 0 0 0) n h (readingOf z xs .log)) (zero-add (readingOf z xs .taken)) (keeps z xs bytes .done h e)
 
   pub inside : Each (λ en. en .row < rowsOf (en .table) (counts h)) (readingOf z xs .log)
   inside = each-map (λ en i. i .row) (readingOf z xs .log) (finished-done .inside)
 
   pub within-bytes : Each (λ en. endOf en ≤ readingOf z xs .taken) (readingOf z xs .log)
   within-bytes = each-map (λ en i. i .ends) (readingOf z xs .log) (finished-done .inside)
+
+  -- its counts are at most the records that the tables hold, so every entry lies in its table
+  pub counts-room : AtMost (counts h) (roomRows z)
+  counts-room = finished-done .room
 
   pub head-bytes : h .bytes ≡ readingOf z xs .taken
   head-bytes = finished-done .bytes
