@@ -3,17 +3,19 @@ use Prim.Native.Nat.{ℕ, zero, suc, _+_, _-_, _*_, _^_, _<_, _≤_, min}
 use mathlib.Core.Path.{_≡_, refl, sym, _∙_, ap, subst}
 use mathlib.Core.Bool.{Bool, true, false, cond}
 use mathlib.Core.List.{List, [], _∷_, _++_}
-use native.Mathlib.Nat.{pow-succ', mul-le-mul-right, add-assoc, pow-le-pow-right, lt-of-lt-of-le, zero-add, add-zero}
+use native.Mathlib.Nat.{pow-succ', mul-le-mul-right, add-assoc, pow-le-pow-right, lt-of-lt-of-le, zero-add, add-zero, mul-zero, mul-assoc, mul-add, add-mul, mul-comm, mul-left-comm}
 use native.Mathlib.Numerals.{add-one}
 use native.Mathlib.Omega.{arith}
 use lib.Dec.{leb, ltb, eqb, lit<}
 use lib.ListN.{length, take, drop, getD, drop-of-length-le}
-use lib.Seq.{drop-cons}
+use lib.Seq.{drop-cons, take-all}
+use Rattle.layout.specs.Number.{value, little, big}
+use Rattle.encode.proofs.Number.{value-bytes}
 use borrow.Author.Tests.{lt-leb, eq-eqb, ne-eqb}
 use Rattle.layout.specs.Outcome.{Tables}
 use Rattle.layout.proofs.Reading.{by-cases}
 use Rattle.decoders.specs.Machine.{OPAQUE, BIG, State, worth, worths, gather, gathered, machine, Machine, step, fed, entering, settle}
-use Rattle.decoders.specs.Feeding.{Worthy, Gathers}
+use Rattle.decoders.specs.Feeding.{ByteAt, Worthy, Gathers}
 
 -- ---- one byte more
 
@@ -131,3 +133,55 @@ fed-settles (b ∷ (b′ ∷ bs)) s t run some e =
     ap (λ (m : Machine). fed m (b′ ∷ bs)) (step-within s t b run (omega arith))
     ∙ fed-settles (b′ ∷ bs) (gather s b) t run (omega arith) (omega arith)
     ∙ ap (λ (x : State). entering (settle x) t) (gathered-twice s (length (b′ ∷ bs)) (worth (s .field .form) (s .field .value) (s .field .have) b) (worthOf s (b ∷ (b′ ∷ bs))))
+
+-- ---- a number that lies whole in the piece
+
+pub worths-little : (form v h : ℕ) (bs : List ℕ) → (form ≡ OPAQUE → ⊥) → (form ≡ BIG → ⊥) → worths form v h bs ≡ v + 256 ^ h * value little bs
+unfolding worths worth value
+worths-little form v h [] a b = omega (arith, mul-zero (256 ^ h))
+worths-little form v h (x ∷ bs) a b =
+    rw (ne-eqb form OPAQUE a, ne-eqb form BIG b)
+    (worths-little form (v + x * 256 ^ h) (h + 1) bs a b
+    ∙ omega (arith, ap (λ (n : ℕ). 256 ^ n * value little bs) (add-one h), ap (λ (n : ℕ). n * value little bs) (pow-succ' 256 h), mul-assoc 256 (256 ^ h) (value little bs), mul-add (256 ^ h) x (256 * value little bs), mul-comm x (256 ^ h), mul-left-comm (256 ^ h) 256 (value little bs)))
+
+pub worths-big : (form v h : ℕ) (bs : List ℕ) → form ≡ BIG → worths form v h bs ≡ v * 256 ^ length bs + value big bs
+unfolding worths worth value
+worths-big form v h [] e = omega arith
+worths-big form v h (x ∷ bs) e =
+    let not-opaque : form ≡ OPAQUE → ⊥ = λ q. omega arith in
+    rw (ne-eqb form OPAQUE not-opaque, eq-eqb form BIG e)
+    (worths-big form (v * 256 + x) (h + 1) bs e
+    ∙ omega (arith, add-mul (v * 256) x (256 ^ length bs), mul-assoc v 256 (256 ^ length bs), ap (λ (n : ℕ). v * n) (pow-succ' 256 (length bs))))
+
+none-yet : (value have : ℕ) → have ≡ 0 → value < 256 ^ have → value ≡ 0
+none-yet value have e h = let z : value < 256 ^ 0 = subst (λ (n : ℕ). value < 256 ^ n) e h in omega arith
+
+pub little-whole : (form v have : ℕ) (bs : List ℕ) (r : ℕ) → form ≡ 3 → have ≡ 0 → v < 256 ^ have → r ≡ value little bs → r ≡ worths form v have bs
+little-whole form v have bs r f e h q =
+    let z : v ≡ 0 = none-yet v have e h in
+    q ∙ omega (arith, worths-little form v have bs (λ p. omega arith) (λ p. omega arith), ap (λ (n : ℕ). 256 ^ n * value little bs) e)
+
+pub big-whole : (form v have : ℕ) (bs : List ℕ) (r : ℕ) → form ≡ 4 → have ≡ 0 → v < 256 ^ have → r ≡ value big bs → r ≡ worths form v have bs
+big-whole form v have bs r f e h q =
+    let z : v ≡ 0 = none-yet v have e h in
+    q ∙ omega (arith, worths-big form v have bs f, ap (λ (n : ℕ). n * 256 ^ length bs) z)
+
+pub one-worths : (form v have : ℕ) (bs : List ℕ) (b r : ℕ) → length bs ≡ 1 → b ≡ getD bs 0 0 → r ≡ worth form v have b → r ≡ worths form v have bs
+unfolding worths
+one-worths form v have (x ∷ []) b r e eb er = er ∙ ap (worth form v have) eb
+one-worths form v have [] b r e eb er = absurd (omega arith)
+one-worths form v have (x ∷ (y ∷ bs)) b r e eb er = absurd (omega arith)
+
+pub four-value : (xs : List ℕ) (a b c d : ℕ) → length xs ≡ 4 → ByteAt xs 0 a → ByteAt xs 1 b → ByteAt xs 2 c → ByteAt xs 3 d → a + b * 256 + c * 65536 + d * 16777216 ≡ value little xs
+unfolding value
+four-value (p ∷ (q ∷ (r ∷ (s ∷ [])))) a b c d e ea eb ec ed = omega arith
+four-value [] a b c d e ea eb ec ed = absurd (omega arith)
+four-value (p ∷ []) a b c d e ea eb ec ed = absurd (omega arith)
+four-value (p ∷ (q ∷ [])) a b c d e ea eb ec ed = absurd (omega arith)
+four-value (p ∷ (q ∷ (r ∷ []))) a b c d e ea eb ec ed = absurd (omega arith)
+four-value (p ∷ (q ∷ (r ∷ (s ∷ (t ∷ xs))))) a b c d e ea eb ec ed = absurd (omega arith)
+
+-- eight bytes are four and four
+pub eight-value : (xs : List ℕ) (a b c d a′ b′ c′ d′ : ℕ) → length xs ≡ 8 → ByteAt xs 0 a → ByteAt xs 1 b → ByteAt xs 2 c → ByteAt xs 3 d → ByteAt xs 4 a′ → ByteAt xs 5 b′ → ByteAt xs 6 c′ → ByteAt xs 7 d′ → (a * 16777216 + b * 65536 + c * 256 + d) * 4294967296 + (a′ * 16777216 + b′ * 65536 + c′ * 256 + d′) ≡ value big xs
+eight-value xs a b c d a′ b′ c′ d′ e ea eb ec ed ea′ eb′ ec′ ed′ =
+    omega (arith, value-bytes big 8 xs (omega arith), ap (value big) (take-all 8 xs (omega arith)), ea, eb, ec, ed, ea′, eb′, ec′, ed′)

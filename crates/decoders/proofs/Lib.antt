@@ -8,6 +8,7 @@ pub mod Fresh
 pub mod Gather
 pub mod Laws
 pub mod Loop
+pub mod OneOutcome
 pub mod Openings
 pub mod Ranges
 pub mod Settles

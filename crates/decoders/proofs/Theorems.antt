@@ -383,8 +383,3 @@ ends-at-once t ps p q h e = feeding-reads t ps p q .0 ∙ ap told e
 pub finished-zero-behind : (t : Tables) (ps : List (List ℕ)) (q : Bytes (join ps)) (h : Head) → readingOf (layoutSizes t) (join ps) .answer ≡ layout.finished h → (k : Table) (j : ℕ) → width k * rowsOf k (counts h) ≤ j → getD (tableOf k (feeding (started t) ps .tables)) j 0 ≡ 0
 finished-zero-behind t ps q h e k j past =
     ap (λ (x : Tables). getD (tableOf k x) j 0) (feeding-held t ps q .1) ∙ of-layout.zero-behind (layoutSizes t) (join ps) q h e k j past
-
--- ---- any two outcomes that a promise allows are equal; `Post` is the promise as the check reads it off the function's clauses
-
-pub one-outcome : {X : Type 0} (a b w : X) → a ≡ w → b ≡ w → a ≡ b
-one-outcome a b w p q = p ∙ sym q

@@ -5,7 +5,7 @@ use mathlib.Core.Path.{_≡_}
 use mathlib.Core.Bool.{Bool, true, false, cond, _&&_}
 use mathlib.Core.List.{List}
 use lib.Dec.{leb, ltb, eqb}
-use lib.ListN.{length, take, replicate}
+use lib.ListN.{length, take, getD, replicate}
 use Rattle.layout.specs.Layout as layout
 use Rattle.layout.specs.Transaction as transaction
 use Rattle.layout.specs.Outcome as outcome
@@ -67,6 +67,11 @@ pub record Storable (e : Entered) (n : ℕ) : Type 0 where
 
 abbrev pub Enterable : Entered → Sizes → Type 0
 Enterable e z = Storable e (sizeBy (e .table) z)
+
+-- a byte of a slice
+pub record ByteAt (xs : List ℕ) (i r : ℕ) : Type 0 where
+  pub is : r ≡ getD xs i 0
+  pub small : r < 256
 
 -- what the code needs while it gathers: a number has at most 8 bytes, and its value so far is below 256 ^ have
 pub record Worthy (form value have b : ℕ) : Type 0 where

@@ -3,8 +3,9 @@ ghost use mathlib.Core.Path.{_≡_};
 ghost use Prim.Native.Nat.{_+_, _-_, _^_, _<_, _≤_, min};
 ghost use lib.ListN.{length, take};
 ghost use mathlib.Core.Bool.{true};
+ghost use Rattle.layout.specs.Number.{value, little, big};
 ghost use Rattle.decoders.specs.Machine.{worth, worths, gathered, machine, fed, Safe};
-ghost use Rattle.decoders.specs.Feeding.{tables, Worthy, Gathers, Fits, Feeds, Starts, ours};
+ghost use Rattle.decoders.specs.Feeding.{tables, ByteAt, Worthy, Gathers, Fits, Feeds, Starts, ours};
 use crate::TransactionDecoder;
 use crate::tables;
 
@@ -49,8 +50,8 @@ pub(crate) fn worth(form: usize, value: usize, have: usize, b: usize) -> usize
     }
 }
 
-// What a part of a field makes of its value; a part that is never looked at makes nothing.
-pub(crate) fn worths(form: usize, value: usize, have: usize, part: &[u8]) -> usize
+// What a part of a number makes of its value, byte by byte.
+pub(crate) fn worths_slow(form: usize, value: usize, have: usize, part: &[u8]) -> usize
     requires { ⌜ Gathers form value have (length (now part)) ⌝ }
     ensures { λ r. ⌜ r ≡ worths form value have (now (part .entry)) ⌝ }
 {
@@ -64,6 +65,56 @@ pub(crate) fn worths(form: usize, value: usize, have: usize, part: &[u8]) -> usi
         i += 1;
     }
     v
+}
+
+pub(crate) fn byte(s: &[u8], i: usize) -> usize
+    requires { ⌜ i < length (now s) ⌝ }
+    ensures { λ r. ⌜ ByteAt (now (s .entry)) i r ⌝ }
+{
+    wide(s[i])
+}
+
+// A number of 4 bytes that lies whole in the piece, and an amount of 8, are loaded at once.
+pub(crate) fn four(s: &[u8]) -> usize
+    requires { ⌜ length (now s) ≡ 4 ⌝ }
+    ensures { λ r. ⌜ r ≡ value little (now (s .entry)) ⌝ }
+{
+    byte(s, 0) + byte(s, 1) * 256 + byte(s, 2) * 65536 + byte(s, 3) * 16777216
+}
+
+pub(crate) fn eight(s: &[u8]) -> usize
+    requires { ⌜ length (now s) ≡ 8 ⌝ }
+    ensures { λ r. ⌜ r ≡ value big (now (s .entry)) ⌝ }
+{
+    let high = byte(s, 0) * 16777216 + byte(s, 1) * 65536 + byte(s, 2) * 256 + byte(s, 3);
+    let low = byte(s, 4) * 16777216 + byte(s, 5) * 65536 + byte(s, 6) * 256 + byte(s, 7);
+    high * 4294967296 + low
+}
+
+// What a part of a field makes of its value; a part that is never looked at makes nothing.
+pub(crate) fn worths(form: usize, value: usize, have: usize, part: &[u8]) -> usize
+    requires { ⌜ Gathers form value have (length (now part)) ⌝ }
+    ensures { λ r. ⌜ r ≡ worths form value have (now (part .entry)) ⌝ }
+{
+    if form == 2 {
+        return value;
+    }
+    if part.len() == 1 {
+        return worth(form, value, have, wide(part[0]));
+    }
+    if have == 0 {
+        if form == 3 {
+            if part.len() == 4 {
+                return four(part);
+            }
+        }
+        if form == 4 {
+            if part.len() == 8 {
+                return eight(part);
+            }
+        }
+    }
+    worths_slow(form, value, have, part)
 }
 
 impl TransactionDecoder {
