@@ -19,7 +19,8 @@ use Rattle.decoders.specs.declared.Settled.{Settled}
 use Rattle.decoders.specs.declared.Sizes.{Sizes}
 use Rattle.decoders.specs.Machine.{FURTHER, FIRST, OPAQUE, LITTLE, BIG, State, worth, worths, gathered, enterBy, machine, Machine, fed, entering, settle, Safe}
 use Rattle.decoders.specs.Range.{inRange, kinds, greatestWidth}
-use Rattle.decoders.specs.Feeding.{sizesOf, sizeBy, Storable, Gathers, Fits, Feeds, ours}
+use Rattle.decoders.specs.Feeding.{sizesOf}
+use Rattle.decoders.specs.Needs.{sizeBy, Storable, Gathers, Fits, Feeds, ours}
 use Rattle.decoders.proofs.Gather.{worth-below, worths-opaque, fed-within, fed-settles}
 use Rattle.decoders.proofs.Ranges.{Open, Ready, range-open, gather-range, gather-ready, ready-safe}
 use Rattle.decoders.proofs.Settles.{settle-fits, settle-range}

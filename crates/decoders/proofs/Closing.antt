@@ -11,7 +11,8 @@ use Rattle.decoders.specs.declared.Answer.{Answer}
 use Rattle.decoders.specs.declared.Answer.the-variants.{Finished, More, Refused}
 use Rattle.decoders.specs.Machine.{State, refuse, answerOf}
 use Rattle.decoders.specs.Range.{inRange}
-use Rattle.decoders.specs.Feeding.{told, headTold, sizes, Out, out, cleared, gate, finish, follow, closed, Headed, Closes}
+use Rattle.decoders.specs.Feeding.{told, sizes, Out, out, cleared, gate, finish, follow, closed}
+use Rattle.decoders.specs.Needs.{headTold, Headed, Closes}
 use Rattle.decoders.proofs.Ranges as r
 use Rattle.decoders.proofs.Ranges.{range-finished}
 

@@ -21,7 +21,8 @@ use Rattle.decoders.specs.declared.Fed.{Fed}
 use Rattle.decoders.specs.declared.Read.{Read}
 use Rattle.decoders.specs.Machine.{State, refuse, answerOf, machine, Machine, fed, fresh}
 use Rattle.decoders.specs.Range.{inRange}
-use Rattle.decoders.specs.Feeding.{tables, sizesOf, cleared, layoutSizes, begun, told, Out, out, outOf, Whole, whole, wholeOf, readOnce, readStrict, gate, closed, pushed, ended, finish, follow, Starts, Closes}
+use Rattle.decoders.specs.Feeding.{tables, sizesOf, cleared, layoutSizes, begun, told, Out, out, outOf, Whole, whole, wholeOf, readOnce, readStrict, gate, closed, pushed, ended, finish, follow}
+use Rattle.decoders.specs.Needs.{Starts, Closes}
 use Rattle.decoders.proofs.Feeds.{fed-range}
 use Rattle.decoders.proofs.Ranges.{fresh-range, finish-range}
 use Rattle.decoders.proofs.Closing.{range-closes, refused-closes}
@@ -137,8 +138,8 @@ module _ (t : Tables) (d : State) (t₁ : Tables) (e₁ : machine d t₁ ≡ beg
         whole-parts f t₃ done (done .taken) (told a) (shown a t₂ (cleared t)) (reading t xs q .taken) (eo ∙ closed-shows done (done .taken) t₂ (cleared t) a ea next-cleared) en
         ∙ ap (λ (x : Tables). wholeOf (record { taken = reading t xs q .taken; answer = told a }) (shown a x (cleared t))) next-tables
 
-    pub once-reads : (done : State) (f : Fed) (t₃ : Tables) → done ≡ finish next → outOf f t₃ ≡ closed done (done .taken) t₂ → wholeOf (record { taken = f .taken; answer = f .answer }) t₃ ≡ readOnce t xs
-    once-reads done f t₃ ed eo = shows done f t₃ _ (ap answerOf ed ∙ finish-answer) (ap (λ (x : State). x .taken) ed ∙ finish-taken next ∙ next-taken) eo
+    pub at-once-reads : (done : State) (f : Fed) (t₃ : Tables) → done ≡ finish next → outOf f t₃ ≡ closed done (done .taken) t₂ → wholeOf (record { taken = f .taken; answer = f .answer }) t₃ ≡ readOnce t xs
+    at-once-reads done f t₃ ed eo = shows done f t₃ _ (ap answerOf ed ∙ finish-answer) (ap (λ (x : State). x .taken) ed ∙ finish-taken next ∙ next-taken) eo
 
     pub strict-reads : (done : State) (f : Fed) (t₃ : Tables) → done ≡ follow (length xs) (finish next) → outOf f t₃ ≡ closed done (done .taken) t₂ → wholeOf (record { taken = f .taken; answer = f .answer }) t₃ ≡ readStrict t xs
     strict-reads done f t₃ ed eo =

@@ -18,7 +18,8 @@ use Rattle.layout.proofs.Reading.{by-cases}
 use Rattle.decoders.specs.declared.Sizes.{Sizes}
 use Rattle.decoders.specs.Machine.{State, refuse, answerOf, headOf, machine, Machine, fed, entering, fresh}
 use Rattle.decoders.specs.Range.{inRange}
-use Rattle.decoders.specs.Feeding.{tables, sizesOf, cleared, layoutSizes, begun, told, Out, out, closed, finish, follow, Closes}
+use Rattle.decoders.specs.Feeding.{tables, sizesOf, cleared, layoutSizes, begun, told, Out, out, closed, finish, follow}
+use Rattle.decoders.specs.Needs.{Closes}
 use Rattle.decoders.proofs.Simulation.{Same, at-run}
 use Rattle.decoders.proofs.Walk.{fresh-at}
 use Rattle.decoders.proofs.Feeds.{Lengths, fed-lengths, fed-range}

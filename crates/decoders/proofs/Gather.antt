@@ -15,7 +15,7 @@ use borrow.Author.Tests.{lt-leb, eq-eqb, ne-eqb}
 use Rattle.layout.specs.Outcome.{Tables}
 use Rattle.layout.proofs.Reading.{by-cases}
 use Rattle.decoders.specs.Machine.{OPAQUE, BIG, State, worth, worths, gather, gathered, machine, Machine, step, fed, entering, settle}
-use Rattle.decoders.specs.Feeding.{ByteAt, Worthy, Gathers}
+use Rattle.decoders.specs.Needs.{ByteAt, Worthy, Gathers}
 
 -- ---- one byte more
 

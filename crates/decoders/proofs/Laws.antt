@@ -6,7 +6,8 @@ use lib.ListN.{set}
 use Rattle.layout.specs.Outcome.{Tables}
 use Rattle.decoders.specs.declared.Entered.{Entered}
 use Rattle.decoders.specs.declared.Sizes.{Sizes}
-use Rattle.decoders.specs.Feeding.{tables, sizeBy, Storable, Enterable}
+use Rattle.decoders.specs.Feeding.{tables}
+use Rattle.decoders.specs.Needs.{sizeBy, Storable, Enterable}
 use mathlib.Core.Bool.{Bool, true, false, cond}
 use native.Mathlib.Omega.{arith}
 use lib.Dec.{leb, ltb, eqb}

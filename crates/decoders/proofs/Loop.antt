@@ -11,7 +11,8 @@ use Rattle.layout.specs.Outcome.{Tables}
 use Rattle.layout.proofs.Number.{bytes-take, bytes-drop}
 use Rattle.decoders.specs.Machine.{State, machine, Machine, fed}
 use Rattle.decoders.specs.Range.{inRange}
-use Rattle.decoders.specs.Feeding.{sizesOf, Feeds, Starts, ours}
+use Rattle.decoders.specs.Feeding.{sizesOf}
+use Rattle.decoders.specs.Needs.{Feeds, Starts, ours}
 use Rattle.decoders.proofs.Advance.{step-taken, step-have}
 use Rattle.decoders.proofs.Ranges.{range-open}
 use Rattle.decoders.proofs.Feeds.{Lengths, fed-range, fed-sizes, fed-lengths}

@@ -26,7 +26,8 @@ use Rattle.decoders.specs.declared.Answer.the-variants.{Finished, More, 
 use Rattle.decoders.specs.declared.Fed.{Fed}
 use Rattle.decoders.specs.Machine.{State, refuse, answerOf, machine, Machine, fed, step, fresh, gather, entering, settle}
 use Rattle.decoders.specs.Range.{inRange}
-use Rattle.decoders.specs.Feeding.{tables, sizesOf, cleared, layoutSizes, begun, told, Out, out, outOf, gate, closed, pushed, ended, finish, Starts}
+use Rattle.decoders.specs.Feeding.{tables, sizesOf, cleared, layoutSizes, begun, told, Out, out, outOf, gate, closed, pushed, ended, finish}
+use Rattle.decoders.specs.Needs.{Starts}
 use Rattle.decoders.proofs.Simulation.{fed-append, fed-ended}
 use Rattle.decoders.proofs.Feeds.{Lengths, fed-range, fed-sizes, fed-lengths, settle-taken}
 use Rattle.decoders.proofs.Ranges.{fresh-range, finish-range, by-stage}

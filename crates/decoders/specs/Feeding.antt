@@ -1,24 +1,20 @@
 -- What the public functions promise: one definition for each gives its result and every lent table at exit, for all states, tables
 -- and pieces.
-use Prim.Native.Nat.{ℕ, _+_, _-_, _^_, _<_, _≤_, min}
-use mathlib.Core.Path.{_≡_}
-use mathlib.Core.Bool.{Bool, true, false, cond, _&&_}
+use Prim.Native.Nat.{ℕ, _-_}
+use mathlib.Core.Bool.{cond, _&&_}
 use mathlib.Core.List.{List}
 use lib.Dec.{leb, ltb, eqb}
-use lib.ListN.{length, take, getD, replicate}
+use lib.ListN.{length, replicate}
 use Rattle.layout.specs.Layout as layout
 use Rattle.layout.specs.Transaction as transaction
 use Rattle.layout.specs.Outcome as outcome
 use Rattle.layout.specs.Outcome.{Tables}
 use Rattle.decoders.specs.declared.Sizes.{Sizes}
-use Rattle.decoders.specs.declared.Entered.{Entered}
-use Rattle.decoders.specs.declared.Head.{Head}
 use Rattle.decoders.specs.declared.Answer.{Answer}
 use Rattle.decoders.specs.declared.Answer.the-variants.{Finished, More, Refused}
 use Rattle.decoders.specs.declared.Fed.{Fed}
 use Rattle.decoders.specs.declared.Read.{Read}
-use Rattle.layout.specs.Transaction.{limit}
-use Rattle.decoders.specs.Machine.{OPAQUE, State, refuse, Machine, machine, fed, answerOf, fresh}
+use Rattle.decoders.specs.Machine.{State, refuse, Machine, machine, fed, answerOf, fresh}
 use Rattle.decoders.specs.Range.{inRange}
 
 -- document 01's answer as the enum has it; layout's numberOf, placeOf and headShown give its number, place and head numbers
@@ -27,19 +23,6 @@ told (layout.finished h) =
     Finished (record { version = h .version; flag = h .flag; inputs = h .inputs; outputs = h .outputs; items = h .items; locktime = h .locktime; bytes = h .bytes })
 told layout.more = More
 told (layout.refused n p) = Refused n p
-
--- a finished state's head numbers, as the code has them
-abbrev pub headTold : State → Head
-headTold s =
-    record {
-      version = s .counts .version;
-      flag = s .counts .flag;
-      inputs = s .counts .inputs;
-      outputs = s .counts .outputs;
-      items = s .counts .items;
-      locktime = s .counts .locktime;
-      bytes = s .taken;
-    }
 
 abbrev pub sizes : ℕ → ℕ → ℕ → Sizes
 sizes i o n = record { inputs = i; outputs = o; items = n }
@@ -53,56 +36,6 @@ sizesOf t = record { inputs = length (t .inputs); outputs = length (t .outputs);
 abbrev pub cleared : Tables → Tables
 cleared t = tables (replicate (length (t .inputs)) 0) (replicate (length (t .outputs)) 0) (replicate (length (t .items)) 0)
 
--- how many numbers the table of an entry holds
-abbrev pub sizeBy : ℕ → Sizes → ℕ
-sizeBy table z = cond (eqb table 1) (z .inputs) (cond (eqb table 2) (z .outputs) (z .items))
-
--- what the code needs of an entry: its places lie in a table of n numbers, and its numbers fit a u32
-pub record Storable (e : Entered) (n : ℕ) : Type 0 where
-  pub count : e .count ≤ 2
-  pub at : 0 < e .count → e .at < n
-  pub at2 : e .count ≡ 2 → e .at2 < n
-  pub number : e .number < 2 ^ 32
-  pub number2 : e .number2 < 2 ^ 32
-
-abbrev pub Enterable : Entered → Sizes → Type 0
-Enterable e z = Storable e (sizeBy (e .table) z)
-
--- a byte of a slice
-pub record ByteAt (xs : List ℕ) (i r : ℕ) : Type 0 where
-  pub is : r ≡ getD xs i 0
-  pub small : r < 256
-
--- what the code needs while it gathers: a number has at most 8 bytes, and its value so far is below 256 ^ have
-pub record Worthy (form value have b : ℕ) : Type 0 where
-  pub looked : form ≡ OPAQUE → ⊥
-  pub number : have < 8
-  pub below : value < 256 ^ have
-  pub byte : b < 256
-
-pub record Gathers (form value have n : ℕ) : Type 0 where
-  pub number : (form ≡ OPAQUE → ⊥) → have + n ≤ 8
-  pub below : value < 256 ^ have
-
-pub record Fits (k : ℕ) (s : State) : Type 0 where
-  pub have : s .field .have + k ≤ limit
-  pub taken : s .taken + k ≤ limit
-
--- and while it feeds: a state within its range that is not ended, tables of its sizes, and a byte at least
-pub record Feeds (s : State) (t : Tables) (xs : List ℕ) : Type 0 where
-  pub range : inRange s ≡ true
-  pub runs : s .field .stage ≤ 24
-  pub sizes : s .sizes ≡ sizesOf t
-  pub some : 0 < length xs
-
-pub record Starts (s : State) (t : Tables) : Type 0 where
-  pub range : inRange s ≡ true
-  pub sizes : s .sizes ≡ sizesOf t
-
--- the bytes that belong to the field that is open
-abbrev pub ours : State → List ℕ → List ℕ
-ours s xs = take (min (s .field .width - s .field .have) (length xs)) xs
-
 -- a call's result, and the tables as it leaves them
 pub record Out : Type 0 where
   pub fed : Fed
@@ -113,19 +46,6 @@ out s n a t = record { fed = record { decoder = s; taken = n; answer = a }; tabl
 
 abbrev pub outOf : Fed → Tables → Out
 outOf r t = record { fed = r; tables = t }
-
--- what the code needs to show a head: its numbers fit a u32
-pub record Headed (s : State) : Type 0 where
-  pub version : s .counts .version < 2 ^ 32
-  pub flag : s .counts .flag < 2 ^ 32
-  pub inputs : s .counts .inputs < 2 ^ 32
-  pub outputs : s .counts .outputs < 2 ^ 32
-  pub items : s .counts .items < 2 ^ 32
-  pub locktime : s .counts .locktime < 2 ^ 32
-  pub bytes : s .taken < 2 ^ 32
-
-pub record Closes (s : State) : Type 0 where
-  pub headed : s .field .stage ≡ 25 → Headed s
 
 -- 11 before 10: a state that fails the range test; tables of other sizes than the fresh start's
 unfoldable pub gate : State → Sizes → ℕ

@@ -1,7 +1,8 @@
 // Where a call starts and ends: the gate, the answer, and the tables of a refused reading.
 ghost use mathlib.Core.Path.{_≡_};
 ghost use Rattle.decoders.specs.Machine.{answerOf, fresh};
-ghost use Rattle.decoders.specs.Feeding.{told, headTold, tables, sizes, outOf, gate, finish, follow, closed, Headed, Closes};
+ghost use Rattle.decoders.specs.Feeding.{told, tables, sizes, outOf, gate, finish, follow, closed};
+ghost use Rattle.decoders.specs.Needs.{headTold, Headed, Closes};
 use crate::Answer;
 use crate::Counts;
 use crate::Fed;

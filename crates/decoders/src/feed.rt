@@ -5,7 +5,8 @@ ghost use lib.ListN.{length, take};
 ghost use mathlib.Core.Bool.{true};
 ghost use Rattle.layout.specs.Number.{value, little, big};
 ghost use Rattle.decoders.specs.Machine.{worth, worths, gathered, machine, fed, Safe};
-ghost use Rattle.decoders.specs.Feeding.{tables, ByteAt, Worthy, Gathers, Fits, Feeds, Starts, ours};
+ghost use Rattle.decoders.specs.Feeding.{tables};
+ghost use Rattle.decoders.specs.Needs.{ByteAt, Worthy, Gathers, Fits, Feeds, Starts, ours};
 use crate::TransactionDecoder;
 use crate::tables;
 

@@ -2,7 +2,8 @@
 ghost use mathlib.Core.Path.{_≡_};
 ghost use lib.ListN.{length, replicate};
 ghost use Rattle.decoders.specs.Machine.{stored, enterBy};
-ghost use Rattle.decoders.specs.Feeding.{tables, cleared, sizesOf, Storable, Enterable};
+ghost use Rattle.decoders.specs.Feeding.{tables, cleared, sizesOf};
+ghost use Rattle.decoders.specs.Needs.{Storable, Enterable};
 use crate::Entered;
 
 pub(crate) fn zero(t: &mut [u32])
