@@ -138,6 +138,81 @@ range-kept-end s t r =
 pub range-fresh : (t : Tables) → inRange (begun t .state) ≡ true
 range-fresh t = fresh-range (sizesOf t)
 
+-- a state within its range never answers 9, 10 or 11 by itself
+refused-small : (s : State) (n p : ℕ) → inRange s ≡ true → told (answerOf s) ≡ Refused n p → n ≤ 8
+unfolding answerOf
+refused-small s n p r e =
+    by-stage s r
+    (λ o. let a : s .field .stage ≡ 25 → ⊥ = λ z. omega (arith, o .stage) in
+    let b : s .field .stage ≡ 26 → ⊥ = λ z. omega (arith, o .stage) in
+    absurd (more-not-refused n p (rw (ne-eqb (s .field .stage) 25 a, ne-eqb (s .field .stage) 26 b) at e)))
+    (λ z _. absurd (finished-not-refused _ n p (rw (eq-eqb (s .field .stage) 25 z) at e)))
+    (λ z w. let a : s .field .stage ≡ 25 → ⊥ = λ y. omega arith in
+    omega (arith, w .greatest, same-number (s .field .value) n (s .field .have) p (rw (ne-eqb (s .field .stage) 25 a, eq-eqb (s .field .stage) 26 z) at e)))
+
+-- said of the answer: 9 and above leaves state and tables as they were, takes nothing, and has place 0
+pub misuse-answer : (s : State) (t : Tables) (xs : List ℕ) (n p : ℕ) → Bytes xs → pushed s t xs .fed .answer ≡ Refused n p → 9 ≤ n → pushed s t xs ≡ out s 0 (Refused n 0) t
+unfolding closed
+misuse-answer s t xs n p q e big =
+    by-cases (eqb (gate s (sizesOf t)) 0)
+    (λ g. let z = eqb-true (gate s (sizesOf t)) 0 g in
+    let o = pushed-open s t xs z in
+    let small = refused-small (fed (machine s t) xs .state) n p (fed-range (machine s t) xs q (gate-starts s t (gate s (sizesOf t)) refl z .range)) (sym (ap (λ (x : Out). x .fed .answer) o) ∙ e) in
+    absurd (omega (arith, small)))
+    (λ g. let m = misuse-untouched s t xs (eqb-false (gate s (sizesOf t)) 0 g) in
+    m ∙ ap (λ (k : ℕ). out s 0 (Refused k 0) t) (same-number (gate s (sizesOf t)) n 0 p (sym (ap (λ (x : Out). x .fed .answer) m) ∙ e)))
+
+pub misuse-answer-end : (s : State) (t : Tables) (n p : ℕ) → ended s t .fed .answer ≡ Refused n p → 9 ≤ n → ended s t ≡ out s 0 (Refused n 0) t
+unfolding closed
+misuse-answer-end s t n p e big =
+    by-cases (eqb (gate s (sizesOf t)) 0)
+    (λ g. let z = eqb-true (gate s (sizesOf t)) 0 g in
+    let o = ended-open s t z in
+    let small = refused-small (finish s) n p (finish-closes s (gate-starts s t (gate s (sizesOf t)) refl z .range)) (sym (ap (λ (x : Out). x .fed .answer) o) ∙ e) in
+    absurd (omega (arith, small)))
+    (λ g. let m = misuse-untouched-end s t (eqb-false (gate s (sizesOf t)) 0 g) in
+    m ∙ ap (λ (k : ℕ). out s 0 (Refused k 0) t) (same-number (gate s (sizesOf t)) n 0 p (sym (ap (λ (x : Out). x .fed .answer) m) ∙ e)))
+
+-- 11 is never given to a state that a call with another answer returned
+range-from : (s : State) (t : Tables) (o : Out) → (gate s (sizesOf t) ≡ 11 → o .fed .answer ≡ Refused 11 0) → (o .fed .answer ≡ Refused 11 0 → ⊥) → inRange s ≡ true
+range-from s t o f h = by-cases (inRange s) (λ e. e) (λ e. absurd (h (f (eleven-first s (sizesOf t) e))))
+
+pub eleven-after : (s : State) (t : Tables) (xs : List ℕ) → Bytes xs → (pushed s t xs .fed .answer ≡ Refused 11 0 → ⊥) → (z : Sizes) → gate (pushed s t xs .fed .decoder) z ≡ 11 → ⊥
+eleven-after s t xs q h z =
+    eleven-never (pushed s t xs .fed .decoder) z (range-kept s t xs q (range-from s t (pushed s t xs)
+    (λ g. ap (λ (x : Out). x .fed .answer) (misuse-untouched s t xs (λ e. omega (arith, e, g))) ∙ ap (λ (n : ℕ). Refused n 0) g) h))
+
+pub eleven-after-end : (s : State) (t : Tables) → (ended s t .fed .answer ≡ Refused 11 0 → ⊥) → (z : Sizes) → gate (ended s t .fed .decoder) z ≡ 11 → ⊥
+eleven-after-end s t h z =
+    eleven-never (ended s t .fed .decoder) z (range-kept-end s t (range-from s t (ended s t)
+    (λ g. ap (λ (x : Out). x .fed .answer) (misuse-untouched-end s t (λ e. omega (arith, e, g))) ∙ ap (λ (n : ℕ). Refused n 0) g) h))
+
+-- of a state within its range, 10 is given exactly where the sizes differ
+gate-known : (s : State) (z : Sizes) → inRange s ≡ true → (gate s z ≡ 0 → ⊥) → gate s z ≡ 10
+unfolding gate
+gate-known s z r h =
+    by-cases (eqb (s .sizes .inputs) (z .inputs) && eqb (s .sizes .outputs) (z .outputs) && eqb (s .sizes .items) (z .items))
+    (λ c. absurd (h (rw (r, c))))
+    (λ c. rw (r, c))
+
+pub ten-exactly : (s : State) (t : Tables) → inRange s ≡ true → (s .sizes ≡ sizesOf t → ⊥) → gate s (sizesOf t) ≡ 10
+ten-exactly s t r h = gate-known s (sizesOf t) r (λ z. h (gate-starts s t (gate s (sizesOf t)) refl z .sizes))
+
+-- every call keeps the sizes, so they stay the fresh start's
+pub sizes-kept : (s : State) (t : Tables) (xs : List ℕ) → pushed s t xs .fed .decoder .sizes ≡ s .sizes
+unfolding closed
+sizes-kept s t xs =
+    by-cases (eqb (gate s (sizesOf t)) 0)
+    (λ g. ap (λ (x : Out). x .fed .decoder .sizes) (pushed-open s t xs (eqb-true (gate s (sizesOf t)) 0 g)) ∙ fed-sizes (machine s t) xs)
+    (λ g. ap (λ (x : Out). x .fed .decoder .sizes) (misuse-untouched s t xs (eqb-false (gate s (sizesOf t)) 0 g)))
+
+pub sizes-kept-end : (s : State) (t : Tables) → ended s t .fed .decoder .sizes ≡ s .sizes
+unfolding closed finish refuse
+sizes-kept-end s t =
+    by-cases (eqb (gate s (sizesOf t)) 0)
+    (λ g. ap (λ (x : Out). x .fed .decoder .sizes) (ended-open s t (eqb-true (gate s (sizesOf t)) 0 g)) ∙ by-cases (leb 25 (s .field .stage)) (λ l. rw l) (λ l. rw l))
+    (λ g. ap (λ (x : Out). x .fed .decoder .sizes) (misuse-untouched-end s t (eqb-false (gate s (sizesOf t)) 0 g)))
+
 -- an ended reading takes no more and repeats its answer, in feeding and finishing
 none-taken : (n : ℕ) → n - n ≡ 0
 none-taken n = omega arith
@@ -172,6 +247,27 @@ fed-entire (b ∷ xs) m h =
   where
     stays : (m′ : Machine) (ys : List ℕ) → 25 ≤ m′ .state .field .stage → fed m′ ys .state .field .stage < 25 → ⊥
     stays m′ ys l k = omega (arith, subst (λ (x : Machine). x .state .field .stage < 25) (fed-ended m′ ys l) k)
+
+-- the bytes told of a call are those that the reading has gone on by, for every state
+step-on : (m : Machine) (b : ℕ) → m .state .taken ≤ step m b .state .taken
+unfolding step
+step-on m b =
+    by-cases (leb 25 (m .state .field .stage))
+    (λ l. rw l (omega arith))
+    (λ l. omega (arith, step-one (m .state) (m .tables) b (leb-false 25 (m .state .field .stage) l)))
+
+fed-on : (xs : List ℕ) (m : Machine) → m .state .taken ≤ fed m xs .state .taken
+unfolding fed
+fed-on [] m = omega arith
+fed-on (b ∷ xs) m = omega (arith, step-on m b, fed-on xs (step m b))
+
+pub call-counts : (s : State) (t : Tables) (xs : List ℕ) → pushed s t xs .fed .decoder .taken ≡ s .taken + pushed s t xs .fed .taken
+unfolding closed
+call-counts s t xs =
+    by-cases (eqb (gate s (sizesOf t)) 0)
+    (λ g. let o = pushed-open s t xs (eqb-true (gate s (sizesOf t)) 0 g) in
+    subst (λ (x : Out). x .fed .decoder .taken ≡ s .taken + x .fed .taken) (sym o) (omega (arith, fed-on xs (machine s t))))
+    (λ g. subst (λ (x : Out). x .fed .decoder .taken ≡ s .taken + x .fed .taken) (sym (misuse-untouched s t xs (eqb-false (gate s (sizesOf t)) 0 g))) (omega arith))
 
 finished-not-more : (h : _) → _≡_ {A = Answer} (Finished h) More → ⊥
 finished-not-more h e = let z : _≡_ {A = ℕ} 0 1 = cc in omega arith
@@ -348,21 +444,36 @@ feeding-reads t ps p q =
     let o = ap₂ (λ (s : State) (x : Tables). pushed s x p) (w .0) (w .1) ∙ call-reads t (join ps) (bytes-front (join ps) p q) p q in
     (ap (λ (x : Out). x .fed .answer) o, ap (λ (x : Out). x .fed .taken) o, ap (λ (x : Out). x .tables) o)
 
--- what a reading ends with: answer (with its place), count of bytes taken in all, and the tables
-pub record Ends (o : Out) (w : Outcome) : Type 0 where
+-- the bytes taken that the calls told, in all
+unfoldable pub counted : Held → List (List ℕ) → ℕ
+counted h [] = 0
+counted h (p ∷ ps) = pushed (h .state) (h .tables) p .fed .taken + counted (handed (pushed (h .state) (h .tables) p)) ps
+
+counted-on : (ps : List (List ℕ)) (h : Held) → feeding h ps .state .taken ≡ h .state .taken + counted h ps
+unfolding feeding counted
+counted-on [] h = omega arith
+counted-on (p ∷ ps) h = omega (arith, counted-on ps (handed (pushed (h .state) (h .tables) p)), call-counts (h .state) (h .tables) p)
+
+pub counts-add : (t : Tables) (ps : List (List ℕ)) (q : Bytes (join ps)) → counted (started t) ps ≡ partial (layoutSizes t) (join ps) .taken
+counts-add t ps q = omega (arith, counted-on ps (started t), ap (λ (s : State). s .taken) (feeding-held t ps q .0), taken-as t (join ps) q)
+
+-- what a reading ends with: answer (with its place), the bytes taken that its calls told and those in its state, and the tables
+pub record Ends (n : ℕ) (o : Out) (w : Outcome) : Type 0 where
   pub answer : o .fed .answer ≡ told (w .answer)
+  pub counted : n ≡ w .taken
   pub taken : o .fed .decoder .taken ≡ w .taken
   pub tables : o .tables ≡ w .tables
 
 abbrev pub finished : Held → Out
 finished h = ended (h .state) (h .tables)
 
-pub finishing-reads : (t : Tables) (ps : List (List ℕ)) (q : Bytes (join ps)) → Ends (finished (feeding (started t) ps)) (atOnce (layoutSizes t) (join ps))
+pub finishing-reads : (t : Tables) (ps : List (List ℕ)) (q : Bytes (join ps)) → Ends (counted (started t) ps) (finished (feeding (started t) ps)) (atOnce (layoutSizes t) (join ps))
 finishing-reads t ps q =
     let w = feeding-held t ps q in
     let o = ap₂ ended (w .0) (w .1) ∙ finish-reads t (join ps) q in
     record {
       answer = ap (λ (x : Out). x .fed .answer) o;
+      counted = counts-add t ps q;
       taken = ap (λ (x : Out). x .fed .decoder .taken) o ∙ finish-taken (after t (join ps) q .state) ∙ taken-as t (join ps) q;
       tables = ap (λ (x : Out). x .tables) o;
     }
@@ -370,10 +481,10 @@ finishing-reads t ps q =
 -- demand 3, word for word: two inputs of one length that agree at each bearing byte of the first, each fed from a fresh start into
 -- tables of equal sizes, each cut anywhere in its own way, state and tables handed on unchanged, then finished, end with the same
 -- answer, place, count of bytes taken and numbers in every table, namely those of 01's reading
-pub demand-3 : (t t′ : Tables) (ps ps′ : List (List ℕ)) → layoutSizes t ≡ layoutSizes t′ → Agree (layoutSizes t) (join ps) (join ps′) → (q : Bytes (join ps)) (q′ : Bytes (join ps′)) → Ends (finished (feeding (started t) ps)) (atOnce (layoutSizes t) (join ps)) × Ends (finished (feeding (started t′) ps′)) (atOnce (layoutSizes t) (join ps))
+pub demand-3 : (t t′ : Tables) (ps ps′ : List (List ℕ)) → layoutSizes t ≡ layoutSizes t′ → Agree (layoutSizes t) (join ps) (join ps′) → (q : Bytes (join ps)) (q′ : Bytes (join ps′)) → Ends (counted (started t) ps) (finished (feeding (started t) ps)) (atOnce (layoutSizes t) (join ps)) × Ends (counted (started t′) ps′) (finished (feeding (started t′) ps′)) (atOnce (layoutSizes t) (join ps))
 demand-3 t t′ ps ps′ e a q q′ = (
   finishing-reads t ps q,
-  subst (λ (w : Outcome). Ends (finished (feeding (started t′) ps′)) w) (sym (of-layout.blind-at-once (layoutSizes t) (join ps) (join ps′) a ∙ ap (λ (z : outcome.Sizes). atOnce z (join ps′)) e)) (finishing-reads t′ ps′ q′),
+  subst (λ (w : Outcome). Ends (counted (started t′) ps′) (finished (feeding (started t′) ps′)) w) (sym (of-layout.blind-at-once (layoutSizes t) (join ps) (join ps′) a ∙ ap (λ (z : outcome.Sizes). atOnce z (join ps′)) e)) (finishing-reads t′ ps′ q′),
 )
 
 -- after its last byte a reading is finished at once

@@ -12,7 +12,7 @@ impl TransactionDecoder {
     pub(crate) fn item_room(self) -> usize
         ensures { λ r. ⌜ r ≡ itemRoom self ⌝ }
     {
-        let half = self.sizes.items / 2;
+        let half = self.sizes.items / TransactionDecoder::ITEM_WIDTH;
         if half <= 4294967295 { half } else { 4294967295 }
     }
 
@@ -83,7 +83,7 @@ impl TransactionDecoder {
         requires { ⌜ Safe self ⌝ }
         ensures { λ r. ⌜ r ≡ lengthSettled stage start n self ⌝ }
     {
-        let left = 4000000 - self.taken;
+        let left = TransactionDecoder::LIMIT - self.taken;
         if n <= left {
             let entered = self.body_entered(stage, n);
             self.body_seen(stage, n)
@@ -99,7 +99,7 @@ impl TransactionDecoder {
         requires { ⌜ Safe self ⌝ }
         ensures { λ r. ⌜ r ≡ inputsCounted start n self ⌝ }
     {
-        let room = self.sizes.inputs / 20;
+        let room = self.sizes.inputs / TransactionDecoder::INPUT_WIDTH;
         if n <= room {
             self.counts.inputs = n;
             self.spot.index = 0;
@@ -113,7 +113,7 @@ impl TransactionDecoder {
         requires { ⌜ Safe self ⌝ }
         ensures { λ r. ⌜ r ≡ outputsCounted start n self ⌝ }
     {
-        let room = self.sizes.outputs / 14;
+        let room = self.sizes.outputs / TransactionDecoder::OUTPUT_WIDTH;
         if n <= room {
             self.counts.outputs = n;
             self.spot.index = 0;

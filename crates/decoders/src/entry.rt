@@ -35,7 +35,7 @@ impl TransactionDecoder {
         requires { ⌜ column ≤ 19 ⌝ }
         ensures { λ r. ⌜ r ≡ input1 column n self ⌝ }
     {
-        let at = 20 * self.spot.index + column;
+        let at = TransactionDecoder::INPUT_WIDTH * self.spot.index + column;
         Entered {
             table: 1,
             count: 1,
@@ -51,7 +51,7 @@ impl TransactionDecoder {
         requires { ⌜ column ≤ 18 ⌝ }
         ensures { λ r. ⌜ r ≡ input2 column n m self ⌝ }
     {
-        let at = 20 * self.spot.index + column;
+        let at = TransactionDecoder::INPUT_WIDTH * self.spot.index + column;
         let at2 = at + 1;
         Entered {
             table: 1,
@@ -68,7 +68,7 @@ impl TransactionDecoder {
         requires { ⌜ column ≤ 12 ⌝ }
         ensures { λ r. ⌜ r ≡ output2 column n m self ⌝ }
     {
-        let at = 14 * self.spot.index + column;
+        let at = TransactionDecoder::OUTPUT_WIDTH * self.spot.index + column;
         let at2 = at + 1;
         Entered {
             table: 2,
@@ -84,7 +84,7 @@ impl TransactionDecoder {
         requires { ⌜ Safe self ⌝ }
         ensures { λ r. ⌜ r ≡ item2 n m self ⌝ }
     {
-        let at = 2 * self.counts.items;
+        let at = TransactionDecoder::ITEM_WIDTH * self.counts.items;
         let at2 = at + 1;
         Entered {
             table: 3,

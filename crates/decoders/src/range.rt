@@ -8,8 +8,6 @@ ghost use lib.ListN.{getD};
 ghost use Rattle.decoders.specs.Machine.{itemRoom};
 ghost use Rattle.decoders.specs.Range.{kinds, befores, records, leastForms, greatestForms, leastWidth, greatestWidth, keptRange, fieldRange, placeRange, finishedRange, refusedRange, inRange};
 
-const LIMIT: usize = 4_000_000;
-
 const GREATEST_U32: usize = 4_294_967_295;
 
 const FURTHER: usize = 0;
@@ -192,7 +190,7 @@ pub(crate) fn greatest_width(kind: usize, form: usize) -> usize
     }
     if form == OPAQUE {
         if kind == 4 {
-            return LIMIT;
+            return TransactionDecoder::LIMIT;
         }
         return 32;
     }
@@ -236,7 +234,7 @@ impl TransactionDecoder {
     pub(crate) fn kept_range(self) -> bool
         ensures { λ r. ⌜ r ≡ keptRange self ⌝ }
     {
-        if LIMIT < self.taken {
+        if TransactionDecoder::LIMIT < self.taken {
             return false;
         }
         if GREATEST_U32 < self.counts.version {
@@ -245,10 +243,10 @@ impl TransactionDecoder {
         if 255 < self.counts.flag {
             return false;
         }
-        if self.sizes.inputs / 20 < self.counts.inputs {
+        if self.sizes.inputs / TransactionDecoder::INPUT_WIDTH < self.counts.inputs {
             return false;
         }
-        if self.sizes.outputs / 14 < self.counts.outputs {
+        if self.sizes.outputs / TransactionDecoder::OUTPUT_WIDTH < self.counts.outputs {
             return false;
         }
         let room = self.item_room();
@@ -308,13 +306,13 @@ impl TransactionDecoder {
         if start < before(stage) {
             return false;
         }
-        if LIMIT < start {
+        if TransactionDecoder::LIMIT < start {
             return false;
         }
-        if LIMIT < self.field.width {
+        if TransactionDecoder::LIMIT < self.field.width {
             return false;
         }
-        if LIMIT < start + self.field.width {
+        if TransactionDecoder::LIMIT < start + self.field.width {
             return false;
         }
         if start < self.spot.index {
@@ -368,7 +366,7 @@ impl TransactionDecoder {
     pub(crate) fn refused_range(self) -> bool
         ensures { λ r. ⌜ r ≡ refusedRange self ⌝ }
     {
-        if LIMIT < self.taken {
+        if TransactionDecoder::LIMIT < self.taken {
             return false;
         }
         if self.field.form != 0 {

@@ -67,7 +67,7 @@ impl TransactionDecoder {
         requires { ⌜ self .taken ≤ limit ⌝ }
         ensures { λ r. ⌜ r ≡ opened place stage form width self ⌝ }
     {
-        let left = 4000000 - self.taken;
+        let left = TransactionDecoder::LIMIT - self.taken;
         if width <= left {
             let field = Field {
                 stage: stage,
