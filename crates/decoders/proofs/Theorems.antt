@@ -345,6 +345,69 @@ cond-lengths : (b : Bool) (t t′ t″ : Tables) → Lengths t t′ → Lengths 
 cond-lengths true t t′ t″ a c = a
 cond-lengths false t t′ t″ a c = c
 
+-- ---- an ended reading repeats its answer, said of the answer
+
+ran-out : (s : State) → (told (answerOf s) ≡ More → ⊥) → 25 ≤ s .field .stage
+unfolding answerOf
+ran-out s h =
+    by-cases (leb 25 (s .field .stage))
+    (λ l. leb-true 25 (s .field .stage) l)
+    (λ l. let less = leb-false 25 (s .field .stage) l in
+    let a : s .field .stage ≡ 25 → ⊥ = λ p. omega arith in
+    let b : s .field .stage ≡ 26 → ⊥ = λ p. omega arith in
+    absurd (h (rw (ne-eqb (s .field .stage) 25 a, ne-eqb (s .field .stage) 26 b))))
+
+close-lengths : (s : State) (n : ℕ) (t : Tables) → Lengths t (closed s n t .tables)
+unfolding closed
+close-lengths s n t = cond-lengths (eqb (s .field .stage) 26) t (cleared t) t (zero-lengths t) (record { inputs = refl; outputs = refl; items = refl })
+
+close-twice : (s : State) (n : ℕ) (t : Tables) → closed s 0 (closed s n t .tables) ≡ out s 0 (closed s n t .fed .answer) (closed s n t .tables)
+unfolding closed
+close-twice s n t = by-cases (eqb (s .field .stage) 26) (λ e. rw e (ap (λ (x : Tables). out s 0 (told (answerOf s)) x) (cleared-lengths t (cleared t) (zero-lengths t)))) (λ e. rw e)
+
+finish-over : (s : State) → 25 ≤ finish s .field .stage
+unfolding finish refuse
+finish-over s = by-cases (leb 25 (s .field .stage)) (λ l. rw l (leb-true 25 (s .field .stage) l)) (λ l. rw l (omega arith))
+
+finish-sizes : (s : State) → finish s .sizes ≡ s .sizes
+unfolding finish refuse
+finish-sizes s = by-cases (leb 25 (s .field .stage)) (λ l. rw l) (λ l. rw l)
+
+-- whatever is fed next, and finishing too, takes nothing and gives the same answer and tables
+abbrev pub Repeats : Out → Type 0
+Repeats o = ((ys : List ℕ) → pushed (o .fed .decoder) (o .tables) ys ≡ out (o .fed .decoder) 0 (o .fed .answer) (o .tables)) × (ended (o .fed .decoder) (o .tables) ≡ out (o .fed .decoder) 0 (o .fed .answer) (o .tables))
+
+closed-repeats : (s : State) (n : ℕ) (t : Tables) → inRange s ≡ true → s .sizes ≡ sizesOf t → 25 ≤ s .field .stage → Repeats (closed s n t)
+unfolding closed
+closed-repeats s n t r e over =
+    let g = gate-zero s (sizesOf (closed s n t .tables)) r (e ∙ sizes-same t (closed s n t .tables) (close-lengths s n t)) in
+    ((λ ys. ended-repeats s (closed s n t .tables) ys g over ∙ close-twice s n t), ended-repeats-end s (closed s n t .tables) g over ∙ close-twice s n t)
+
+-- a call that is not misused and doesn't answer more
+pub answer-repeats : (s : State) (t : Tables) (xs : List ℕ) → Bytes xs → gate s (sizesOf t) ≡ 0 → (pushed s t xs .fed .answer ≡ More → ⊥) → Repeats (pushed s t xs)
+unfolding closed
+answer-repeats s t xs q g h =
+    let o = pushed-open s t xs g in
+    let m = fed (machine s t) xs in
+    let b = gate-starts s t (gate s (sizesOf t)) refl g in
+    let over = ran-out (m .state) (λ e. h (ap (λ (x : Out). x .fed .answer) o ∙ e)) in
+    subst Repeats (sym o) (closed-repeats (m .state) (m .state .taken - s .taken) (m .tables) (fed-range (machine s t) xs q (b .range)) (fed-sizes (machine s t) xs ∙ b .sizes ∙ sizes-same t (m .tables) (fed-lengths (machine s t) xs)) over)
+
+-- finishing always ends a reading
+pub answer-repeats-end : (s : State) (t : Tables) → gate s (sizesOf t) ≡ 0 → Repeats (ended s t)
+answer-repeats-end s t g =
+    let b = gate-starts s t (gate s (sizesOf t)) refl g in
+    subst Repeats (sym (ended-open s t g)) (closed-repeats (finish s) 0 t (finish-closes s (b .range)) (finish-sizes s ∙ b .sizes) (finish-over s))
+
+pub end-never-more : (s : State) (t : Tables) → ended s t .fed .answer ≡ More → ⊥
+unfolding closed
+end-never-more s t e =
+    by-cases (eqb (gate s (sizesOf t)) 0)
+    (λ g. let z = eqb-true (gate s (sizesOf t)) 0 g in
+    let less = more-runs (finish s) (finish-closes s (gate-starts s t (gate s (sizesOf t)) refl z .range)) (sym (ap (λ (x : Out). x .fed .answer) (ended-open s t z)) ∙ e) in
+    absurd (omega (arith, less, finish-over s)))
+    (λ g. absurd (more-not-refused _ _ (sym (sym (ap (λ (x : Out). x .fed .answer) (misuse-untouched-end s t (eqb-false (gate s (sizesOf t)) 0 g))) ∙ e))))
+
 shown-finish : (a : layout.Answer Head) (n : ℕ) (t z : Tables) → shown (outcome.finish a n) (shown a t z) z ≡ shown (outcome.finish a n) t z
 shown-finish (layout.finished h) n t z = refl
 shown-finish layout.more n t z = refl
