@@ -29,7 +29,7 @@ use Rattle.decoders.specs.Range.{inRange}
 use Rattle.decoders.specs.Feeding.{tables, sizesOf, cleared, layoutSizes, begun, told, Out, out, outOf, gate, closed, pushed, ended, finish}
 use Rattle.decoders.specs.Needs.{Starts}
 use Rattle.decoders.proofs.Simulation.{fed-append, fed-ended}
-use Rattle.decoders.proofs.Feeds.{Lengths, fed-range, fed-sizes, fed-lengths, settle-taken}
+use Rattle.decoders.proofs.Feeds.{Lengths, fed-range, fed-sizes, fed-lengths, fed-taken, settle-taken}
 use Rattle.decoders.proofs.Ranges.{fresh-range, finish-range, by-stage}
 use Rattle.decoders.proofs.Fresh.{reading, after, reads, after-range, after-cleared, cleared-lengths, zero-lengths, closed-shows, answer-finish, finish-taken}
 use Rattle.decoders.proofs.Entries.{gate-starts, finish-closes}
@@ -249,25 +249,22 @@ fed-entire (b ∷ xs) m h =
     stays m′ ys l k = omega (arith, subst (λ (x : Machine). x .state .field .stage < 25) (fed-ended m′ ys l) k)
 
 -- the bytes told of a call are those that the reading has gone on by, for every state
-step-on : (m : Machine) (b : ℕ) → m .state .taken ≤ step m b .state .taken
-unfolding step
-step-on m b =
-    by-cases (leb 25 (m .state .field .stage))
-    (λ l. rw l (omega arith))
-    (λ l. omega (arith, step-one (m .state) (m .tables) b (leb-false 25 (m .state .field .stage) l)))
-
-fed-on : (xs : List ℕ) (m : Machine) → m .state .taken ≤ fed m xs .state .taken
-unfolding fed
-fed-on [] m = omega arith
-fed-on (b ∷ xs) m = omega (arith, step-on m b, fed-on xs (step m b))
-
 pub call-counts : (s : State) (t : Tables) (xs : List ℕ) → pushed s t xs .fed .decoder .taken ≡ s .taken + pushed s t xs .fed .taken
 unfolding closed
 call-counts s t xs =
     by-cases (eqb (gate s (sizesOf t)) 0)
     (λ g. let o = pushed-open s t xs (eqb-true (gate s (sizesOf t)) 0 g) in
-    subst (λ (x : Out). x .fed .decoder .taken ≡ s .taken + x .fed .taken) (sym o) (omega (arith, fed-on xs (machine s t))))
+    subst (λ (x : Out). x .fed .decoder .taken ≡ s .taken + x .fed .taken) (sym o) (omega (arith, fed-taken (machine s t) xs .least)))
     (λ g. subst (λ (x : Out). x .fed .decoder .taken ≡ s .taken + x .fed .taken) (sym (misuse-untouched s t xs (eqb-false (gate s (sizesOf t)) 0 g))) (omega arith))
+
+-- and no more than the piece has
+pub call-within : (s : State) (t : Tables) (xs : List ℕ) → pushed s t xs .fed .taken ≤ length xs
+unfolding closed
+call-within s t xs =
+    by-cases (eqb (gate s (sizesOf t)) 0)
+    (λ g. let o = pushed-open s t xs (eqb-true (gate s (sizesOf t)) 0 g) in
+    subst (λ (x : Out). x .fed .taken ≤ length xs) (sym o) (omega (arith, fed-taken (machine s t) xs .most)))
+    (λ g. subst (λ (x : Out). x .fed .taken ≤ length xs) (sym (misuse-untouched s t xs (eqb-false (gate s (sizesOf t)) 0 g))) (omega arith))
 
 finished-not-more : (h : _) → _≡_ {A = Answer} (Finished h) More → ⊥
 finished-not-more h e = let z : _≡_ {A = ℕ} 0 1 = cc in omega arith
@@ -558,3 +555,8 @@ ends-at-once t ps p q h e = feeding-reads t ps p q .0 ∙ ap told e
 pub finished-zero-behind : (t : Tables) (ps : List (List ℕ)) (q : Bytes (join ps)) (h : Head) → readingOf (layoutSizes t) (join ps) .answer ≡ layout.finished h → (k : Table) (j : ℕ) → width k * rowsOf k (counts h) ≤ j → getD (tableOf k (feeding (started t) ps .tables)) j 0 ≡ 0
 finished-zero-behind t ps q h e k j past =
     ap (λ (x : Tables). getD (tableOf k x) j 0) (feeding-held t ps q .1) ∙ of-layout.zero-behind (layoutSizes t) (join ps) q h e k j past
+
+-- and after finishing
+pub finished-zero-behind-end : (t : Tables) (ps : List (List ℕ)) (q : Bytes (join ps)) (h : Head) → atOnce (layoutSizes t) (join ps) .answer ≡ layout.finished h → (k : Table) (j : ℕ) → width k * rowsOf k (counts h) ≤ j → getD (tableOf k (finished (feeding (started t) ps) .tables)) j 0 ≡ 0
+finished-zero-behind-end t ps q h e k j past =
+    ap (λ (x : Tables). getD (tableOf k x) j 0) (finishing-reads t ps q .tables) ∙ of-layout.zero-behind-at-once (layoutSizes t) (join ps) q h e k j past

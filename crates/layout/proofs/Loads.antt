@@ -1,14 +1,15 @@
 -- Document 01's loads, proved of the definitions by computing them. Every number told on a right side was worked out from document 01.
 --     loads           its "Loads to try" that are marked (P), one list under one claim
 --     load-96 ..      its other loads that can be computed here, with every number of every table
+--     all-prefixes    which of the 256 prefixes are listed, for each kind
 --     every-feature   one transaction with all that a transaction can have, laid out byte by byte
 --     bearing-bytes   which bytes of that one are bearing, and bearing-cut of cut ones
 --     edges, limits   loads that pin one rule each: what is refused first, what a table holds so far, where the limits lie
-use Prim.Native.Nat.{ℕ, _+_, _-_, _*_, _^_}
+use Prim.Native.Nat.{ℕ, zero, suc, _+_, _-_, _*_, _^_}
 use Prim.Native.Char.{code}
 use Prim.Native.String.{String, [] as nothing, _∷_ as _then_}
 use mathlib.Core.Path.{_≡_, refl}
-use mathlib.Core.Bool.{true, false, not, cond}
+use mathlib.Core.Bool.{Bool, true, false, not, cond}
 use mathlib.Core.List.{List, [], _∷_, _++_, map}
 use lib.Dec.{ltb, eqb}
 use lib.ListN.{length, replicate, drop, getD}
@@ -172,6 +173,40 @@ loads : AsTold (
     [])
 unfolding computes
 loads = refl
+
+-- ---- every prefix: which of a byte's 256 values are listed, behind some bytes of an output or an issuance
+
+goes : Answer ℕ → Bool
+goes (finished n) = true
+goes more = true
+goes (refused n p) = false
+
+listed : Layout ℕ → List ℕ → ℕ → ℕ → List ℕ
+listed l front zero p = []
+listed l front (suc n) p = let rest = listed l front n (suc p) in cond (goes (run l (front ++ (p ∷ [])) .answer)) (p ∷ rest) rest
+
+abbrev prefixes : Layout ℕ → List ℕ → List ℕ
+prefixes l front = listed l front 256 0
+
+all-prefixes : (
+    -- an output's asset, value, nonce
+    prefixes (outputAt 0 0 accept) [] ∷
+    prefixes (outputAt 0 0 accept) (hex "00") ∷
+    prefixes (outputAt 0 0 accept) (hex "00 00") ∷
+    -- an issuance's amount, and its keys behind an explicit amount and behind a null one, where null is 6
+    prefixes (issuanceAt 0 0 accept) (hidden 64) ∷
+    prefixes (issuanceAt 0 0 accept) (hidden 64 ++ hex "01 0000000000000000") ∷
+    prefixes (issuanceAt 0 0 accept) (hidden 64 ++ hex "00") ∷
+    []) ≡
+    (0 ∷ 1 ∷ 10 ∷ 11 ∷ []) ∷
+    (0 ∷ 1 ∷ 8 ∷ 9 ∷ []) ∷
+    (0 ∷ 1 ∷ 2 ∷ 3 ∷ []) ∷
+    (0 ∷ 1 ∷ 8 ∷ 9 ∷ []) ∷
+    (0 ∷ 1 ∷ 8 ∷ 9 ∷ []) ∷
+    (1 ∷ 8 ∷ 9 ∷ []) ∷
+    []
+unfolding computes goes listed
+all-prefixes = refl
 
 -- ---- 01's other loads that can be computed here. Read strictly, where accepted: so no byte is left.
 

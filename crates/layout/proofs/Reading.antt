@@ -77,6 +77,9 @@ module _ {A : Type 0} where
   pub refused-not-more : {n p : ℕ} → _≡_ {A = Answer A} (refused n p) more → ⊥
   refused-not-more e = let z : _≡_ {A = ℕ} 0 1 = cc in omega arith
 
+  pub refused-not-finished : {n p : ℕ} {a : A} → _≡_ {A = Answer A} (refused n p) (finished a) → ⊥
+  refused-not-finished e = let z : _≡_ {A = ℕ} 0 1 = cc in omega arith
+
   pub finished-not-more : {a : A} → _≡_ {A = Answer A} (finished a) more → ⊥
   finished-not-more e = let z : _≡_ {A = ℕ} 0 1 = cc in omega arith
 

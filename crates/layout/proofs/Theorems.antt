@@ -15,7 +15,7 @@ use Rattle.layout.specs.Layout.{Layout, Answer, finished, more, refused,
 use Rattle.layout.specs.Transaction.{Head, Room, limit, transaction}
 use Rattle.layout.specs.Outcome.{Tables, Sizes, width, roomOf, zeros, change, lay, laid, Outcome, shown, outcome, readingOf, partial, finish, ended, atOnce, follow, strictly, strict, bears, Bearing, Agree, numberOf, placeOf, headShown, noHead}
 use Rattle.layout.proofs.Reading as reading-laws
-use Rattle.layout.proofs.Reading.{chain, rest, finished-not-more}
+use Rattle.layout.proofs.Reading.{by-cases, chain, rest, finished-not-more, refused-not-finished}
 use Rattle.layout.proofs.Sound.{Each, Fair, Inside, Kept, Done, Rows, AtMost, rowsOf, counts, rows, endOf, transaction-kept}
 
 -- ---- demand 3's second half
@@ -180,6 +180,27 @@ zero-behind z xs bytes h e =
         each-both
         (λ en fair row ns q j less. getD-sets-behind (en .numbers) ns (width (en .table) * en .row + en .column) j (le-trans (row-ends (width (en .table)) (en .row) (en .column) (length (en .numbers)) (rowsOf (en .table) (counts h)) (fair .fits) row) less) ∙ q j less)
         (readingOf z xs .log) (entries-fair z xs bytes) (inside z xs bytes h e)
+
+-- the same of reading at once and of the strict form: where they finish, so did the reading
+finish-finished : (a : Answer Head) (n : ℕ) (h : Head) → finish a n ≡ finished h → a ≡ finished h
+finish-finished (finished g) n h e = e
+finish-finished more n h e = absurd (refused-not-finished e)
+finish-finished (refused m p) n h e = e
+
+follow-finished : (a : Answer Head) (n there : ℕ) (h : Head) → follow a n there ≡ finished h → a ≡ finished h
+follow-finished (finished g) n there h e = by-cases (ltb n there) (λ t. absurd (refused-not-finished (rw t at e))) (λ t. rw t at e)
+follow-finished more n there h e = e
+follow-finished (refused m p) n there h e = e
+
+pub zero-behind-at-once : (z : Sizes) (xs : List ℕ) → Bytes xs → (h : Head) → atOnce z xs .answer ≡ finished h → (t : Table) (j : ℕ) → width t * rowsOf t (counts h) ≤ j → getD (tableOf t (atOnce z xs .tables)) j 0 ≡ 0
+zero-behind-at-once z xs bytes h e t j less =
+    let q = finish-finished (readingOf z xs .answer) (readingOf z xs .taken) h e in
+    ap (λ (a : Answer Head). getD (tableOf t (shown a (laid (readingOf z xs .log) (zeros z)) (zeros z))) j 0) (e ∙ sym q) ∙ zero-behind z xs bytes h q t j less
+
+pub zero-behind-strict : (z : Sizes) (xs : List ℕ) → Bytes xs → (h : Head) → strict z xs .answer ≡ finished h → (t : Table) (j : ℕ) → width t * rowsOf t (counts h) ≤ j → getD (tableOf t (strict z xs .tables)) j 0 ≡ 0
+zero-behind-strict z xs bytes h e t j less =
+    let q = follow-finished (atOnce z xs .answer) (readingOf z xs .taken) (length xs) h e in
+    ap (λ (a : Answer Head). getD (tableOf t (shown a (laid (readingOf z xs .log) (zeros z)) (zeros z))) j 0) (e ∙ sym q) ∙ zero-behind-at-once z xs bytes h q t j less
 
 abbrev Small : List ℕ → Type 0
 Small ns = (j : ℕ) → getD ns j 0 < 2 ^ 32

@@ -1,0 +1,15 @@
+-- Wrong programs, refuted: each is what a program would give, as a function of what the promise speaks of, and at a named load some
+-- number of it is not the promised one.
+--     Loads     the loads, the states and tables they start from, and what tells two outcomes apart
+--     Outs, Wholes   parts of what the public functions give
+--     New, Push, End, Read, Strict    one file for each public function of the reader
+--     Small     counts and widths
+pub mod Loads
+pub mod Outs
+pub mod Wholes
+pub mod New
+pub mod Push
+pub mod End
+pub mod Read
+pub mod Strict
+pub mod Small
