@@ -1,6 +1,7 @@
 // The range test of refusal 11. A caller can hand in any numbers, so no sum or difference here relies on a state being right.
 // docs/STATE.md has the test as tables.
 use crate::TransactionDecoder;
+use crate::state;
 ghost use mathlib.Core.Path.{_≡_};
 ghost use mathlib.Core.Bool.{true, cond};
 ghost use Prim.Native.Nat.{_^_, min};
@@ -234,38 +235,19 @@ impl TransactionDecoder {
     pub(crate) fn kept_range(self) -> bool
         ensures { λ r. ⌜ r ≡ keptRange self ⌝ }
     {
-        if TransactionDecoder::LIMIT < self.taken {
-            return false;
-        }
-        if GREATEST_U32 < self.counts.version {
-            return false;
-        }
-        if 255 < self.counts.flag {
-            return false;
-        }
-        if self.sizes.inputs / TransactionDecoder::INPUT_WIDTH < self.counts.inputs {
-            return false;
-        }
-        if self.sizes.outputs / TransactionDecoder::OUTPUT_WIDTH < self.counts.outputs {
-            return false;
-        }
         let room = self.item_room();
-        if room < self.counts.items {
-            return false;
-        }
-        if GREATEST_U32 < self.counts.locktime {
-            return false;
-        }
-        if room - self.counts.items < self.spot.left {
-            return false;
-        }
-        if 1 < self.spot.issuance {
-            return false;
-        }
-        if 1 < self.spot.null {
-            return false;
-        }
-        self.spot.empty <= 1
+        let left = state::minus(room, self.counts.items);
+        (self.taken <= TransactionDecoder::LIMIT)
+            & (self.counts.version <= GREATEST_U32)
+            & (self.counts.flag <= 255)
+            & (self.counts.inputs <= self.sizes.inputs / TransactionDecoder::INPUT_WIDTH)
+            & (self.counts.outputs <= self.sizes.outputs / TransactionDecoder::OUTPUT_WIDTH)
+            & (self.counts.items <= room)
+            & (self.counts.locktime <= GREATEST_U32)
+            & (self.spot.left <= left)
+            & (self.spot.issuance <= 1)
+            & (self.spot.null <= 1)
+            & (self.spot.empty <= 1)
     }
 
     // The field that is open: some of its bytes, not all, are there.
@@ -338,83 +320,37 @@ impl TransactionDecoder {
     pub(crate) fn finished_range(self) -> bool
         ensures { λ r. ⌜ r ≡ finishedRange self ⌝ }
     {
-        if self.field.form != 0 {
-            return false;
-        }
-        if self.field.width != 0 {
-            return false;
-        }
-        if self.field.have != 0 {
-            return false;
-        }
-        if self.field.value != 0 {
-            return false;
-        }
-        if self.taken < 11 {
-            return false;
-        }
-        if self.taken < self.spot.index {
-            return false;
-        }
-        if self.taken < self.counts.inputs {
-            return false;
-        }
-        self.counts.outputs <= self.taken
+        (self.field.form == 0)
+            & (self.field.width == 0)
+            & (self.field.have == 0)
+            & (self.field.value == 0)
+            & (11 <= self.taken)
+            & (self.spot.index <= self.taken)
+            & (self.counts.inputs <= self.taken)
+            & (self.counts.outputs <= self.taken)
     }
 
     // Stage 26: refused, value the number and have the place.
     pub(crate) fn refused_range(self) -> bool
         ensures { λ r. ⌜ r ≡ refusedRange self ⌝ }
     {
-        if TransactionDecoder::LIMIT < self.taken {
-            return false;
-        }
-        if self.field.form != 0 {
-            return false;
-        }
-        if self.field.width != 0 {
-            return false;
-        }
-        if self.taken < self.field.have {
-            return false;
-        }
-        if self.field.value < 1 {
-            return false;
-        }
-        if 8 < self.field.value {
-            return false;
-        }
-        if self.counts.version != 0 {
-            return false;
-        }
-        if self.counts.flag != 0 {
-            return false;
-        }
-        if self.counts.inputs != 0 {
-            return false;
-        }
-        if self.counts.outputs != 0 {
-            return false;
-        }
-        if self.counts.items != 0 {
-            return false;
-        }
-        if self.counts.locktime != 0 {
-            return false;
-        }
-        if self.spot.index != 0 {
-            return false;
-        }
-        if self.spot.left != 0 {
-            return false;
-        }
-        if self.spot.issuance != 0 {
-            return false;
-        }
-        if self.spot.null != 0 {
-            return false;
-        }
-        self.spot.empty == 0
+        (self.taken <= TransactionDecoder::LIMIT)
+            & (self.field.form == 0)
+            & (self.field.width == 0)
+            & (self.field.have <= self.taken)
+            & (1 <= self.field.value)
+            & (self.field.value <= 8)
+            & (self.counts.version == 0)
+            & (self.counts.flag == 0)
+            & (self.counts.inputs == 0)
+            & (self.counts.outputs == 0)
+            & (self.counts.items == 0)
+            & (self.counts.locktime == 0)
+            & (self.spot.index == 0)
+            & (self.spot.left == 0)
+            & (self.spot.issuance == 0)
+            & (self.spot.null == 0)
+            & (self.spot.empty == 0)
     }
 
     // Whether the state is within its range.
