@@ -68,7 +68,7 @@ fn strictly(s: &[u8]) {
 }
 
 // One refusal of each number that a reading gives.
-fn refusals() {
+fn refusals_1_to_4() {
     // 1: the 96-byte load without its last byte
     once(
         b"\x02\x00\x00\x00\x00\
@@ -99,6 +99,9 @@ fn refusals() {
         \x01eeeeeeeeeeeeeeeeeeeeeeeeeeeeeeee\x00\x00\x00\x00\x00\xfe\xff\xff\xff\
         \x00\x00\x00\x00\x00\x00\x00\x02",
     );
+}
+
+fn refusals_5_to_7() {
     // 5: asset, value, nonce, an issuance's amount and keys
     once(b"\x02\x00\x00\x00\x00\x00\x01\x02");
     once(b"\x02\x00\x00\x00\x00\x00\x01\x00\x02");
@@ -121,6 +124,9 @@ fn refusals() {
     );
     once(b"\x02\x00\x00\x00\x02\x00\x01\x02");
     once(b"\x02\x00\x00\x00\x02\x00\x00\x00\x00\x00");
+}
+
+fn refusals_8_and_9() {
     // 8
     once(
         b"\x02\x00\x00\x00\x01\
@@ -424,7 +430,9 @@ fn main() {
     // 256 inputs in 256 records, and 257
     inputs(0);
     inputs(1);
-    refusals();
+    refusals_1_to_4();
+    refusals_5_to_7();
+    refusals_8_and_9();
     sizes();
     thousand();
 }

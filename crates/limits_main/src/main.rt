@@ -32,7 +32,7 @@ fn limit(flag: u8, inputs: u8, top: u8, low: u8, tail: &[u8]) {
     trial::line(a, f.taken, &i, &o, &n);
 }
 
-fn head_and_outputs() {
+fn counts_and_numbers() {
     // locktime ends at 4,000,000: accepted; one past: 2 at its start
     limit(0, 1, 0x00, 0xc8, b"\x00\x00\x00\x00\x00\x00\x00\x00\x00");
     limit(0, 1, 0x00, 0xc9, b"\x00\x00\x00\x00\x00\x00\x00\x00\x00");
@@ -50,6 +50,9 @@ fn head_and_outputs() {
     limit(0, 1, 0x00, 0xcc, b"\x00\x00\x00\x00\x02");
     limit(0, 1, 0x00, 0xcc, b"\x00\x00\x00\x00\x00");
     limit(0, 1, 0x00, 0xcc, b"\x00\x00\x00\x00\x01");
+}
+
+fn assets_and_amounts() {
     // an asset's prefix is the last byte: 2 for the value's prefix; 5; 2 for its part
     limit(0, 1, 0x00, 0xcb, b"\x00\x00\x00\x00\x01\x00");
     limit(0, 1, 0x00, 0xcb, b"\x00\x00\x00\x00\x01\x02");
@@ -86,7 +89,7 @@ fn head_and_outputs() {
     );
 }
 
-fn issuances_and_witnesses() {
+fn output_scripts() {
     // an output script: its length past; body one past, two forms; empty body at the end; length's further bytes past; 3 before 2
     limit(0, 1, 0x00, 0xc9, b"\x00\x00\x00\x00\x01\x00\x00\x00\x00");
     limit(
@@ -124,6 +127,9 @@ fn issuances_and_witnesses() {
         0xc6,
         b"\x00\x00\x00\x00\x01\x00\x00\x00\xfd\xfd\x00",
     );
+}
+
+fn second_inputs() {
     // a second input: txid one past; ending at 4,000,000; vout one past
     limit(
         0,
@@ -146,6 +152,9 @@ fn issuances_and_witnesses() {
         0xaa,
         b"\x00\x00\x00\x00eeeeeeeeeeeeeeeeeeeeeeeeeeeeeeee\x00\x00\x00\x00",
     );
+}
+
+fn issuances() {
     // an issuance: blinding nonce, entropy, explicit amount one past; keys' prefix past; null and ending at 4,000,000: 6
     limit(
         0,
@@ -182,6 +191,9 @@ fn issuances_and_witnesses() {
         0x8b,
         b"\x00\x00\x00\x00eeeeeeeeeeeeeeeeeeeeeeeeeeeeeeeeeeeeeeeeeeeeeeeeeeeeeeeeeeeeeeee\x00\x00",
     );
+}
+
+fn witnesses() {
     // flag 2, or 1, and the locktime ends at 4,000,000: 7; 2 for the amount proof's length
     limit(2, 1, 0x00, 0xc8, b"\x00\x00\x00\x00\x00\x00\x00\x00\x00");
     limit(1, 1, 0x00, 0xc8, b"\x00\x00\x00\x00\x00\x00\x00\x00\x00");
@@ -207,6 +219,9 @@ fn issuances_and_witnesses() {
         0xc4,
         b"\x00\x00\x00\x00\x00\x00\x00\x00\x00\x00\x00\x01\x00\x00",
     );
+}
+
+fn stacks() {
     // a stack's count is the last byte: 4 for two items in one record; 2 for an item's length; an item one past
     limit(
         1,
@@ -232,6 +247,11 @@ fn issuances_and_witnesses() {
 }
 
 fn main() {
-    head_and_outputs();
-    issuances_and_witnesses();
+    counts_and_numbers();
+    assets_and_amounts();
+    output_scripts();
+    second_inputs();
+    issuances();
+    witnesses();
+    stacks();
 }
