@@ -1,3 +1,2 @@
 pub mod Width
 pub mod Theorems
-mod Flag

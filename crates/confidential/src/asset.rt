@@ -17,7 +17,7 @@ pub fn width(prefix: usize) -> usize
         1
     } else if prefix == 1 {
         1 + EXPLICIT_LEN
-    } else if prefix == CONF_PREFIX_1 || prefix == CONF_PREFIX_2 {
+    } else if (prefix == CONF_PREFIX_1) | (prefix == CONF_PREFIX_2) {
         CONFIDENTIAL_LEN
     } else {
         0
