@@ -30,8 +30,7 @@ module _ (xs : List ℕ) where
       pub count-cut : length xs ≤ w → Refused 1 (length xs) ≡ countOf xs
       count-cut h = sym (ap toldOf (compact-cut 0 _ xs (lit≤ tt) first is there w says above h))
 
-      pub count-whole : w < length xs → (n : ℕ) → n ≡ value little (take (announced first) (drop 1 xs)) → (short : Bool) → short ≡ leb (least w) n → cond short (Value n) (Refused 3 0) ≡ countOf xs
-      count-whole h n is-n short test =
-          ap (λ (b : Bool). cond b (Value n) (Refused 3 0)) test
-          ∙ sym (judged w n (drop w (drop 1 xs)) (leb (least w) n))
-          ∙ sym (ap toldOf (compact-whole 0 _ xs (lit≤ tt) first is there w says above n (is-n ∙ ap (λ (b : ℕ). value little (take b (drop 1 xs))) (sym says)) h))
+      pub count-whole : w < length xs → (n : ℕ) → n ≡ value little (take (announced first) (drop 1 xs)) → countOf xs ≡ cond (leb (least w) n) (Value n) (Refused 3 0)
+      count-whole h n is-n =
+          ap toldOf (compact-whole 0 _ xs (lit≤ tt) first is there w says above n (is-n ∙ ap (λ (b : ℕ). value little (take b (drop 1 xs))) (sym says)) h)
+          ∙ judged w n (drop w (drop 1 xs)) (leb (least w) n)

@@ -1,8 +1,10 @@
 -- `encode::read_count` meets its contract: each return cites its law of Reader.antt.
 use mathlib.Core.Path.{_≡_, sym, _∙_}
-use mathlib.Core.Bool.{Bool, true, false, cond}
+use mathlib.Core.Bool.{cond}
 use native.Mathlib.Omega.{arith}
+use lib.Dec.{leb}
 use borrow.Author.Needs.{needs}
+use Rattle.layout.specs.Transaction.{least}
 use Rattle.encode.specs.declared.Count.the-variants.{Value, Refused}
 use Rattle.encode.specs.Count.{countOf}
 use Rattle.encode.proofs.Reader.{count-empty, count-first, count-cut, count-whole}
@@ -30,17 +32,16 @@ further-requires c κs = search needs
 is-shortest-requires : tie.Need-is-shortest-requires
 is-shortest-requires c κs = search needs
 
-whole : (c : tie.After-is-shortest) (short : Bool) → c .is-shortest .result ≡ short → cond short (Value (c .before .further .result)) (Refused 3 0) ≡ countOf (c .before .before .before .before .before .before .before .before .args .s .now)
-whole c short e =
-    let else3 = c .before .before in
-    count-whole _ _ (else3 .before .before .before .one .ensures) (omega arith) _ (else3 .before .announced .ensures) (omega arith)
-    (omega arith) _ (c .before .further .ensures) short (sym e ∙ c .is-shortest .ensures)
+whole : (c : tie.After-further) → countOf (c .before .before .before .before .before .before .before .args .s .now) ≡ cond (leb (least (c .before .before .announced .result)) (c .further .result)) (Value (c .further .result)) (Refused 3 0)
+whole c =
+    count-whole _ _ (c .before .before .before .before .one .ensures) (omega arith) _ (c .before .before .announced .ensures) (omega arith)
+    (omega arith) _ (c .further .ensures)
 
 returns-4 : tie.Need-returns-4
-returns-4 c = whole (c .before) true (c .if4 .taken)
+returns-4 c = simp (whole (c .before .before), sym (c .before .is-shortest .ensures) ∙ c .if4 .taken)
 
 returns-5 : tie.Need-returns-5
-returns-5 c = whole (c .before) false (c .if4 .left)
+returns-5 c = simp (whole (c .before .before), sym (c .before .is-shortest .ensures) ∙ c .if4 .left)
 
 pub read-count-spec : {M : Type 1} → statement M
 read-count-spec =
