@@ -1,5 +1,9 @@
 pub mod Number
 pub mod Reading
+pub mod Codes
+pub mod Outpoint
+pub mod Parts
 pub mod Sound
 pub mod Theorems
 pub mod Loads
+pub mod WritingLoads

@@ -23,18 +23,18 @@ use Rattle.layout.specs.Outcome.{Sizes, Tables, Outcome, zeros, laid, re
 -- ---- Bytes, as document 01 writes them
 
 -- Two hexadecimal digits make a byte; spaces are for the eye. Character 32 is the space, 48 to 57 are 0 to 9, 97 to 102 are a to f.
-digits : String → List ℕ
+unfoldable digits : String → List ℕ
 digits nothing = []
 digits (c then s) =
     let rest = digits s in
     cond (eqb (code c) 32) rest ((code c - cond (ltb (code c) 58) 48 87) ∷ rest)
 
-paired : List ℕ → List ℕ
+unfoldable paired : List ℕ → List ℕ
 paired [] = []
 paired (a ∷ []) = []
 paired (a ∷ b ∷ ds) = (16 * a + b) ∷ paired ds
 
-hex : String → List ℕ
+unfoldable pub hex : String → List ℕ
 unfolding digits paired
 hex s = paired (digits s)
 
@@ -43,7 +43,7 @@ unfolding hex
 hex-reads = refl
 
 -- so many bytes that a reading never looks at: any would do
-hidden : ℕ → List ℕ
+unfoldable pub hidden : ℕ → List ℕ
 hidden n = replicate n 0xee
 
 -- so many inputs of 41 bytes, all 0: txid, vout, script length, sequence
@@ -72,7 +72,7 @@ abbrev AsTold : List Load → Type 0
 AsTold ls = map (λ l. l .found) ls ≡ map (λ l. l .told) ls
 
 -- How many numbers the tables hold. `one` is room for one record each.
-abbrev sizes : ℕ → ℕ → ℕ → Sizes
+abbrev pub sizes : ℕ → ℕ → ℕ → Sizes
 sizes i o n = record { inputs = i; outputs = o; items = n }
 
 abbrev one : Sizes
@@ -112,10 +112,10 @@ abbrev raw : ℕ → Given
 raw n = split (vout n) (flags n)
 
 -- Version, flag, three counts, locktime, length in bytes.
-abbrev head : ℕ → ℕ → ℕ → ℕ → ℕ → ℕ → ℕ → Head
+abbrev pub head : ℕ → ℕ → ℕ → ℕ → ℕ → ℕ → ℕ → Head
 head v f i o n l b = record { version = v; flag = f; inputs = i; outputs = o; items = n; locktime = l; bytes = b }
 
-abbrev tables : List ℕ → List ℕ → List ℕ → Tables
+abbrev pub tables : List ℕ → List ℕ → List ℕ → Tables
 tables i o n = record { inputs = i; outputs = o; items = n }
 
 -- numbers, and then 0 up to so many
@@ -146,7 +146,7 @@ abbrev stops : ℕ → ℕ → ℕ → Given
 stops n p taken = piece (refused n p) taken
 
 -- Where this is unfolded, readings compute.
-computes : Unit {0}
+unfoldable pub computes : Unit {0}
 unfolding hex hidden inputs0 value run laid
     within furtherAt opaqueAt compactAt countAt bodyAt valueAt prefixedAt each allOnes flagBit vout flags
     issuanceAt inputAt outputAt itemAt stackAt inputWitnessAt outputWitnessAt transaction
@@ -211,7 +211,7 @@ all-prefixes = refl
 -- ---- 01's other loads that can be computed here. Read strictly, where accepted: so no byte is left.
 
 -- One input (txid, vout 0, empty script, sequence 0xfffffffe), one output (asset prefix 1, explicit 400, null nonce, empty script).
-abbrev oneAndOne : String → String → List ℕ
+abbrev pub oneAndOne : String → String → List ℕ
 oneAndOne flag behind =
     hex "02000000" ++ hex flag ++
     hex "01" ++ hidden 32 ++ hex "00000000 00 feffffff" ++
@@ -271,7 +271,7 @@ inputs-257 = refl
 -- ---- Every feature at once
 
 -- Position, bytes (ee: never looked at), field, and what enters the head or the record. Worked out by hand from document 01.
-everything : List ℕ
+unfoldable pub everything : List ℕ
 everything =
     --   0  04030201          version                     head: version 0x01020304 = 16909060
     --   4  01                flag                        head: flag 1

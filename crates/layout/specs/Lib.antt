@@ -7,3 +7,6 @@ pub mod Number
 pub mod Layout
 pub mod Transaction
 pub mod Outcome
+pub mod Contents
+pub mod Records
+pub mod Writing

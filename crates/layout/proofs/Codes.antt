@@ -1,0 +1,368 @@
+-- A part of the layout and the contents that it codes, both ways at once, and the ways of putting parts together.
+--     forth   reading the bytes of good contents, and anything behind them, goes on behind them with the part's entries
+--     back    where a reading finishes, it began with the bytes of some good contents, and goes on behind them
+use Prim.Native.Nat.{ℕ, zero, suc, _+_, _-_, _*_, _^_, _<_, _≤_}
+use mathlib.Core.Path.{_≡_, refl, sym, _∙_, ap, ap₂, subst}
+use mathlib.Core.Bool.{Bool, true, false, cond}
+use mathlib.Core.List.{List, [], _∷_, _++_, append-assoc, append-nil}
+use native.Mathlib.Nat.{add-assoc, add-zero, zero-add}
+use native.Mathlib.Omega.{arith}
+use lib.Dec.{leb}
+use lib.ListN.{length, take, drop, getD, length-append, length-take, length-drop, take-append-drop}
+use lib.Seq.{take-at, drop-at, length-take-le, getD-append-add}
+use borrow.Author.Tests.{leb-true, leb-false, le-leb, lt-leb}
+use Rattle.layout.specs.Number.{Order, value, bytesOf, Bytes}
+use Rattle.layout.specs.Layout.{Layout, number, opaque, enter, refuse, accept, Answer, finished, more, refused, Reading, reading, behind, noted, Entry, Hidden, run}
+use Rattle.layout.specs.Transaction.{Head, limit, within, furtherAt, numberAt, opaqueAt, each, alone}
+use Rattle.layout.specs.Contents.{Fixed, Every, flat, compactBytes, listBytes}
+use Rattle.layout.proofs.Number.{bytes-take, bytes-drop, value-bytes, bytes-value, length-bytes, bytes-bytes, value-small}
+use Rattle.layout.proofs.Reading.{by-cases, fieldRun, field-there, field-case, finished-not-more, refused-not-finished}
+
+pub bytes-behind : (xs ys : List ℕ) → Bytes (xs ++ ys) → Bytes ys
+bytes-behind xs ys h i = rw (sym (getD-append-add xs ys i 0)) (h (length xs + i))
+
+-- A part stands at a position and hands on a result and the position behind it.
+abbrev pub Part : Type 0 → Type 0
+Part S = ℕ → (S → ℕ → Layout Head) → Layout Head
+
+-- so many bytes and some entries, and then a reading that goes on
+abbrev pub after : ℕ → List Entry → Reading Head → Reading Head
+after n es r = reading (r .answer) (n + r .taken) (es ++ r .log)
+
+abbrev pub Finishes : Layout Head → List ℕ → Head → Type 0
+Finishes l xs a = run l xs .answer ≡ finished a
+
+-- the bytes began with those of good contents, and the reading of what follows finishes
+pub record Began {X S : Type 0} (Good : X → Type 0) (bytes : X → List ℕ) (out : X → S) (at : ℕ) (k : S → ℕ → Layout Head) (xs : List ℕ) (a : Head) : Type 0 where
+  pub held : X
+  pub rest : List ℕ
+  pub good : Good held
+  pub same : xs ≡ bytes held ++ rest
+  pub ends : at + length (bytes held) ≤ limit
+  pub goes : Finishes (k (out held) (at + length (bytes held))) rest a
+
+pub record Codes {X S : Type 0} (part : Part S) (Good : X → Type 0) (bytes : X → List ℕ) (log : ℕ → X → List Entry) (out : X → S) : Type 0 where
+  pub forth : (x : X) → Good x → (at : ℕ) (k : S → ℕ → Layout Head) (ys : List ℕ) → at + length (bytes x) ≤ limit → run (part at k) (bytes x ++ ys) ≡ after (length (bytes x)) (log at x) (run (k (out x) (at + length (bytes x))) ys)
+  pub back : (at : ℕ) (k : S → ℕ → Layout Head) (xs : List ℕ) (a : Head) → Bytes xs → at ≤ limit → Finishes (part at k) xs a → Began Good bytes out at k xs a
+
+-- what was held, as other contents
+pub began-as : {X Y S : Type 0} {Good : X → Type 0} {bytes : X → List ℕ} {out : X → S} {Good′ : Y → Type 0} {bytes′ : Y → List ℕ} {out′ : Y → S} {at : ℕ} {k : S → ℕ → Layout Head} {xs : List ℕ} {a : Head} (u : Began Good bytes out at k xs a) (y : Y) → Good′ y → bytes′ y ≡ bytes (u .held) → out′ y ≡ out (u .held) → Began Good′ bytes′ out′ at k xs a
+began-as {S = S} {out = out} {bytes′ = bytes′} {at = at} {k = k} {a = a} u y g e o =
+    record {
+      held = y;
+      rest = u .rest;
+      good = g;
+      same = u .same ∙ ap (λ (l : List ℕ). l ++ u .rest) (sym e);
+      ends = subst (λ (l : List ℕ). at + length l ≤ limit) (sym e) (u .ends);
+      goes = subst (λ (s : S). Finishes (k s (at + length (bytes′ y))) (u .rest) a) (sym o) (subst (λ (l : List ℕ). Finishes (k (out (u .held)) (at + length l)) (u .rest) a) (sym e) (u .goes));
+    }
+
+-- ---- putting parts together
+
+-- one part, and then another that may depend on it
+module _ {X Y S T : Type 0} {P : Part S} {GoodP : X → Type 0} {bytesP : X → List ℕ} {logP : ℕ → X → List Entry} {outP : X → S}
+    {Q : ℕ → S → Part T} {GoodQ : X → Y → Type 0} {bytesQ : X → Y → List ℕ} {logQ : ℕ → X → ℕ → Y → List Entry} {outQ : X → Y → T} where
+  pub then : Codes P GoodP bytesP logP outP → ((at : ℕ) (x : X) → GoodP x → Codes (Q at (outP x)) (GoodQ x) (bytesQ x) (logQ at x) (outQ x)) → Codes (λ at k. P at (λ s at′. Q at s at′ k)) (λ (z : X × Y). GoodP (z .0) × GoodQ (z .0) (z .1)) (λ z. bytesP (z .0) ++ bytesQ (z .0) (z .1)) (λ at z. logP at (z .0) ++ logQ at (z .0) (at + length (bytesP (z .0))) (z .1)) (λ z. outQ (z .0) (z .1))
+  then p q =
+      record {
+        forth = λ z g at k ys h.
+            let x = z .0 in
+            let y = z .1 in
+            let b = bytesP x in
+            let c = bytesQ x y in
+            let both : length (b ++ c) ≡ length b + length c = length-append b c in
+            let k′ : S → ℕ → Layout Head = λ s at′. Q at s at′ k in
+            let e : at + length b + length c ≡ at + length (b ++ c) = omega arith in
+            ap (run (P at k′)) (append-assoc b c ys)
+            ∙ p .forth x (g .0) at k′ (c ++ ys) (omega arith)
+            ∙ ap (after (length b) (logP at x)) (q at x (g .0) .forth y (g .1) (at + length b) k ys (omega arith))
+            ∙ ap (λ (n : ℕ). after (length b) (logP at x) (after (length c) (logQ at x (at + length b) y) (run (k (outQ x y) n) ys))) e
+            ∙ (let r = run (k (outQ x y) (at + length (b ++ c))) ys in
+            ap₂ (λ (n : ℕ) (es : List Entry). reading (r .answer) n es) (omega arith) (sym (append-assoc (logP at x) (logQ at x (at + length b) y) (r .log))));
+        back = λ at k xs a bs h f.
+            let u = p .back at (λ s at′. Q at s at′ k) xs a bs h f in
+            let rest-bytes = bytes-behind (bytesP (u .held)) (u .rest) (subst Bytes (u .same) bs) in
+            let v = q at (u .held) (u .good) .back (at + length (bytesP (u .held))) k (u .rest) a rest-bytes (u .ends) (u .goes) in
+            let b = bytesP (u .held) in
+            let c = bytesQ (u .held) (v .held) in
+            let e : at + length b + length c ≡ at + length (b ++ c) = omega (arith, length-append b c) in
+            record {
+              held = (u .held, v .held);
+              rest = v .rest;
+              good = (u .good, v .good);
+              same = u .same ∙ ap (λ (l : List ℕ). b ++ l) (v .same) ∙ sym (append-assoc b c (v .rest));
+              ends = subst (λ (n : ℕ). n ≤ limit) e (v .ends);
+              goes = subst (λ (n : ℕ). Finishes (k (outQ (u .held) (v .held)) n) (v .rest) a) e (v .goes);
+            };
+      }
+
+-- a part whose entry follows it, and one whose result is tested
+module _ {X S : Type 0} {P : Part S} {Good : X → Type 0} {bytes : X → List ℕ} {log : ℕ → X → List Entry} {out : X → S} where
+  pub noting : (e : ℕ → S → Entry) → Codes P Good bytes log out → Codes (λ at k. P at (λ s at′. enter (e at s) (k s at′))) Good bytes (λ at x. log at x ++ (e at (out x) ∷ [])) out
+  unfolding run
+  noting e p =
+      record {
+        forth = λ x g at k ys h.
+            let r = run (k (out x) (at + length (bytes x))) ys in
+            p .forth x g at (λ s at′. enter (e at s) (k s at′)) ys h ∙ ap (reading (r .answer) (length (bytes x) + r .taken)) (sym (append-assoc (log at x) (e at (out x) ∷ []) (r .log)));
+        back = λ at k xs a bs h f.
+            let u = p .back at (λ s at′. enter (e at s) (k s at′)) xs a bs h f in
+            record { held = u .held; rest = u .rest; good = u .good; same = u .same; ends = u .ends; goes = u .goes };
+      }
+
+  pub passing : (t : S → Bool) (n : ℕ) (place : ℕ → ℕ) → Codes P Good bytes log out → Codes (λ at k. P at (λ s at′. cond (t s) (k s at′) (refuse n (place at)))) (λ x. Good x × (t (out x) ≡ true)) bytes log out
+  unfolding run
+  passing t n place p =
+      record {
+        forth = λ x g at k ys h.
+            p .forth x (g .0) at (λ s at′. cond (t s) (k s at′) (refuse n (place at))) ys h
+            ∙ ap (λ (b : Bool). after (length (bytes x)) (log at x) (run (cond b (k (out x) (at + length (bytes x))) (refuse n (place at))) ys)) (g .1);
+        back = λ at k xs a bs h f.
+            let u = p .back at (λ s at′. cond (t s) (k s at′) (refuse n (place at))) xs a bs h f in
+            let go : Layout Head = k (out (u .held)) (at + length (bytes (u .held))) in
+            by-cases (t (out (u .held)))
+            (λ e. record { held = u .held; rest = u .rest; good = (u .good, e); same = u .same; ends = u .ends; goes = subst (λ (b : Bool). Finishes (cond b go (refuse n (place at))) (u .rest) a) e (u .goes) })
+            (λ e. absurd (refused-not-finished (subst (λ (b : Bool). Finishes (cond b go (refuse n (place at))) (u .rest) a) e (u .goes))));
+      }
+
+  pub failing : (t : S → Bool) (n place : ℕ) → Codes P Good bytes log out → Codes (λ at k. P at (λ s at′. cond (t s) (refuse n place) (k s at′))) (λ x. Good x × (t (out x) ≡ false)) bytes log out
+  unfolding run
+  failing t n place p =
+      record {
+        forth = λ x g at k ys h.
+            p .forth x (g .0) at (λ s at′. cond (t s) (refuse n place) (k s at′)) ys h
+            ∙ ap (λ (b : Bool). after (length (bytes x)) (log at x) (run (cond b (refuse n place) (k (out x) (at + length (bytes x)))) ys)) (g .1);
+        back = λ at k xs a bs h f.
+            let u = p .back at (λ s at′. cond (t s) (refuse n place) (k s at′)) xs a bs h f in
+            let go : Layout Head = k (out (u .held)) (at + length (bytes (u .held))) in
+            by-cases (t (out (u .held)))
+            (λ e. absurd (refused-not-finished (subst (λ (b : Bool). Finishes (cond b (refuse n place) go) (u .rest) a) e (u .goes))))
+            (λ e. record { held = u .held; rest = u .rest; good = (u .good, e); same = u .same; ends = u .ends; goes = subst (λ (b : Bool). Finishes (cond b (refuse n place) go) (u .rest) a) e (u .goes) });
+      }
+
+  -- the same part as a coding of other contents
+  module _ {Y : Type 0} {Good′ : Y → Type 0} {bytes′ : Y → List ℕ} {log′ : ℕ → Y → List Entry} {out′ : Y → S} where
+    pub seen-as :
+        (to : Y → X)
+        → ((y : Y) → Good′ y → length (bytes′ y) ≤ limit → Good (to y))
+        → ((y : Y) → Good′ y → bytes′ y ≡ bytes (to y))
+        → ((at : ℕ) (y : Y) → Good′ y → log′ at y ≡ log at (to y))
+        → ((y : Y) → Good′ y → out′ y ≡ out (to y))
+        → ((x : X) → Good x → (y : Y) × Good′ y × (to y ≡ x))
+        → Codes P Good bytes log out
+        → Codes P Good′ bytes′ log′ out′
+    seen-as to goods spells enters hands finds p =
+        record {
+          forth = λ y g at k ys h.
+              let e = spells y g in
+              let x = to y in
+              ap (λ (l : List ℕ). run (P at k) (l ++ ys)) e
+              ∙ p .forth x (goods y g (omega arith)) at k ys (subst (λ (l : List ℕ). at + length l ≤ limit) e h)
+              ∙ ap (λ (l : List ℕ). after (length l) (log at x) (run (k (out x) (at + length l)) ys)) (sym e)
+              ∙ ap₂ (λ (es : List Entry) (s : S). after (length (bytes′ y)) es (run (k s (at + length (bytes′ y))) ys)) (sym (enters at y g)) (sym (hands y g));
+          back = λ at k xs a bs h f.
+              let u = p .back at k xs a bs h f in
+              let v = finds (u .held) (u .good) in
+              began-as u (v .0) (v .1) (spells (v .0) (v .1) ∙ ap bytes (v .2)) (hands (v .0) (v .1) ∙ ap out (v .2));
+        }
+
+-- a part's result as another
+pub handing : {X S T : Type 0} {P : Part S} {Good : X → Type 0} {bytes : X → List ℕ} {log : ℕ → X → List Entry} {out : X → S} (f : S → T) → Codes P Good bytes log out → Codes (λ at (k : T → ℕ → Layout Head). P at (λ s. k (f s))) Good bytes log (λ x. f (out x))
+handing f p =
+    record {
+      forth = λ x g at k ys h. p .forth x g at (λ s. k (f s)) ys h;
+      back = λ at k xs a bs h e.
+          let u = p .back at (λ s. k (f s)) xs a bs h e in
+          record { held = u .held; rest = u .rest; good = u .good; same = u .same; ends = u .ends; goes = u .goes };
+    }
+
+-- the branch that a test takes
+module _ {X S : Type 0} {Good : X → Type 0} {bytes : X → List ℕ} {log : ℕ → X → List Entry} {out : X → S} (t : Bool) (P Q : Part S) where
+  pub if-true : t ≡ true → Codes P Good bytes log out → Codes (λ at k. cond t (P at k) (Q at k)) Good bytes log out
+  if-true e p = subst (λ (b : Bool). Codes (λ at k. cond b (P at k) (Q at k)) Good bytes log out) (sym e) p
+
+  pub if-false : t ≡ false → Codes Q Good bytes log out → Codes (λ at k. cond t (P at k) (Q at k)) Good bytes log out
+  if-false e q = subst (λ (b : Bool). Codes (λ at k. cond b (P at k) (Q at k)) Good bytes log out) (sym e) q
+
+-- no bytes
+pub empty-codes : {S : Type 0} (s : S) → Codes (λ at k. k s at) (λ (x : Unit {0}). Unit {0}) (λ x. []) (λ at x. []) (λ x. s)
+empty-codes s =
+    record {
+      forth = λ x g at k ys h.
+          ap (λ (n : ℕ). run (k s n) ys) (sym (add-zero at)) ∙ (let r = run (k s (at + 0)) ys in ap (λ (n : ℕ). reading (r .answer) n (r .log)) (sym (zero-add (r .taken))));
+      back = λ at k xs a bs h f. record { held = tt; rest = xs; good = tt; same = refl; ends = omega arith; goes = subst (λ (n : ℕ). Finishes (k s n) xs a) (sym (add-zero at)) f };
+    }
+
+-- no contents at all
+pub refuse-codes : {X S : Type 0} {Good : X → Type 0} {bytes : X → List ℕ} {log : ℕ → X → List Entry} {out : X → S} (n place : ℕ) → ((x : X) → Good x → ⊥) → Codes (λ at k. refuse n place) Good bytes log out
+unfolding run
+refuse-codes n place never = record { forth = λ x g. absurd (never x g); back = λ at k xs a bs h f. absurd (refused-not-finished f) }
+
+-- ---- so many of one kind; each hands on what later ones need of it
+
+module _ {X S : Type 0} (part : ℕ → S → Part S) (Good : S → X → Type 0) (bytes : X → List ℕ) (log : ℕ → S → ℕ → X → List Entry) (next : S → X → S) where
+  abbrev pub GoodEach : S → List X → Type 0
+  GoodEach s [] = Unit {0}
+  GoodEach s (x ∷ xs) = Good s x × GoodEach (next s x) xs
+
+  abbrev pub logEach : ℕ → S → ℕ → List X → List Entry
+  logEach i s at [] = []
+  logEach i s at (x ∷ xs) = log i s at x ++ logEach (suc i) (next s x) (at + length (bytes x)) xs
+
+  abbrev pub nextEach : S → List X → S
+  nextEach s [] = s
+  nextEach s (x ∷ xs) = nextEach (next s x) xs
+
+  abbrev Eaches : ℕ → ℕ → S → Type 0
+  Eaches n i s = Codes (λ at k. each part n i s at k) (λ xs. (length xs ≡ n) × GoodEach s xs) (flat bytes) (logEach i s) (nextEach s)
+
+  no-each : (i : ℕ) (s : S) → Eaches 0 i s
+  unfolding each flat
+  no-each i s = seen-as {Y = List X} (λ xs. tt) (λ xs g h. tt) none-bytes none-log none-next (λ x g. ([], (refl, tt), refl)) (empty-codes s)
+    where
+      none-bytes : (xs : List X) → (length xs ≡ 0) × GoodEach s xs → flat bytes xs ≡ []
+      none-bytes [] g = refl
+      none-bytes (x ∷ xs) g = absurd (omega (arith, g .0))
+
+      none-log : (at : ℕ) (xs : List X) → (length xs ≡ 0) × GoodEach s xs → logEach i s at xs ≡ []
+      none-log at [] g = refl
+      none-log at (x ∷ xs) g = absurd (omega (arith, g .0))
+
+      none-next : (xs : List X) → (length xs ≡ 0) × GoodEach s xs → nextEach s xs ≡ s
+      none-next [] g = refl
+      none-next (x ∷ xs) g = absurd (omega (arith, g .0))
+
+  -- one, and then n more
+  ahead : (n i : ℕ) (s : S) → Codes (part i s) (Good s) bytes (log i s) (next s) → ((x : X) → Eaches n (suc i) (next s x)) → Codes (λ at k. each part (suc n) i s at k) (λ (z : X × List X). Good s (z .0) × ((length (z .1) ≡ n) × GoodEach (next s (z .0)) (z .1))) (λ z. bytes (z .0) ++ flat bytes (z .1)) (λ at z. log i s at (z .0) ++ logEach (suc i) (next s (z .0)) (at + length (bytes (z .0))) (z .1)) (λ z. nextEach (next s (z .0)) (z .1))
+  unfolding each
+  ahead n i s p q = then {Q = λ at s′ at′ k. each part n (suc i) s′ at′ k} p (λ at x g. q x)
+
+  one-more : (n i : ℕ) (s : S) → Codes (part i s) (Good s) bytes (log i s) (next s) → ((x : X) → Eaches n (suc i) (next s x)) → Eaches (suc n) i s
+  unfolding flat
+  one-more n i s p q =
+      record {
+        forth = forth-one;
+        back = λ at k xs a bs h f.
+            let u = ahead n i s p q .back at k xs a bs h f in
+            record { held = u .held .0 ∷ u .held .1; rest = u .rest; good = (ap suc (u .good .1 .0), (u .good .0, u .good .1 .1)); same = u .same; ends = u .ends; goes = u .goes };
+      }
+    where
+      forth-one : (xs : List X) → (length xs ≡ suc n) × GoodEach s xs → (at : ℕ) (k : S → ℕ → Layout Head) (ys : List ℕ) → at + length (flat bytes xs) ≤ limit → run (each part (suc n) i s at k) (flat bytes xs ++ ys) ≡ after (length (flat bytes xs)) (logEach i s at xs) (run (k (nextEach s xs) (at + length (flat bytes xs))) ys)
+      forth-one [] g = absurd (omega (arith, g .0))
+      forth-one (x ∷ xs) g = ahead n i s p q .forth (x, xs) (g .1 .0, (omega (arith, g .0), g .1 .1))
+
+  pub each-codes : ((i : ℕ) (s : S) → Codes (part i s) (Good s) bytes (log i s) (next s)) → (n i : ℕ) (s : S) → Codes (λ at k. each part n i s at k) (λ xs. (length xs ≡ n) × GoodEach s xs) (flat bytes) (logEach i s) (nextEach s)
+  each-codes p zero i s = no-each i s
+  each-codes p (suc n) i s = one-more n i s (p i s) (λ x. each-codes p n (suc i) (next s x))
+
+-- of which later ones need nothing
+module _ {X : Type 0} (part : ℕ → ℕ → (ℕ → Layout Head) → Layout Head) (Good : X → Type 0) (bytes : X → List ℕ) (log : ℕ → ℕ → X → List Entry) where
+  abbrev pub logAll : ℕ → ℕ → List X → List Entry
+  logAll i at [] = []
+  logAll i at (x ∷ xs) = log i at x ++ logAll (suc i) (at + length (bytes x)) xs
+
+  abbrev GoodOnes : List X → Type 0
+  GoodOnes xs = GoodEach {S = Unit {0}} (λ i s at k. part i at (k s)) (λ s. Good) bytes (λ i s. log i) (λ s x. s) tt xs
+
+  every-one : (xs : List X) → Every Good xs → GoodOnes xs
+  every-one [] g = tt
+  every-one (x ∷ xs) g = (g .0, every-one xs (g .1))
+
+  one-every : (xs : List X) → GoodOnes xs → Every Good xs
+  one-every [] g = tt
+  one-every (x ∷ xs) g = (g .0, one-every xs (g .1))
+
+  log-all : (i at : ℕ) (xs : List X) → logAll i at xs ≡ logEach {S = Unit {0}} (λ i s at k. part i at (k s)) (λ s. Good) bytes (λ i s. log i) (λ s x. s) i tt at xs
+  log-all i at [] = refl
+  log-all i at (x ∷ xs) = ap (λ (es : List Entry). log i at x ++ es) (log-all (suc i) (at + length (bytes x)) xs)
+
+  pub all-codes : ((i : ℕ) → Codes (λ at (k : Unit {0} → ℕ → Layout Head). part i at (k tt)) Good bytes (log i) (λ x. tt)) → (n i : ℕ) → Codes (λ at (k : Unit {0} → ℕ → Layout Head). each (alone part) n i tt at k) (λ xs. (length xs ≡ n) × Every Good xs) (flat bytes) (logAll i) (λ xs. tt)
+  all-codes p n i =
+      seen-as (λ xs. xs)
+      (λ xs g h. (g .0, every-one xs (g .1)))
+      (λ xs g. refl)
+      (λ at xs g. log-all i at xs)
+      (λ xs g. refl)
+      (λ xs g. (xs, (g .0, one-every xs (g .1)), refl))
+      (each-codes {S = Unit {0}} (λ i s at k. part i at (k s)) (λ s. Good) bytes (λ i s. log i) (λ s x. s) (λ i s. p i) n i tt)
+
+-- A count, then so many.
+pub list-codes : {X : Type 0} {P : Part ℕ} {GoodCount : ℕ → Type 0} {logCount : ℕ → ℕ → List Entry} (part : ℕ → ℕ → (ℕ → Layout Head) → Layout Head) (Good : X → Type 0) (bytes : X → List ℕ) (log : ℕ → ℕ → X → List Entry) (first : ℕ) → Codes P GoodCount compactBytes logCount (λ n. n) → ((i : ℕ) → Codes (λ at (k : Unit {0} → ℕ → Layout Head). part i at (k tt)) Good bytes (log i) (λ x. tt)) → Codes (λ at (k : ℕ → ℕ → Layout Head). P at (λ n at′. each (alone part) n first tt at′ (λ s. k n))) (λ xs. GoodCount (length xs) × Every Good xs) (listBytes bytes) (λ at xs. logCount at (length xs) ++ logAll part Good bytes log first (at + length (compactBytes (length xs))) xs) (λ xs. length xs)
+unfolding listBytes
+list-codes {GoodCount = GoodCount} part Good bytes log first c p =
+    seen-as (λ xs. (length xs, xs))
+    (λ xs g h. (g .0, (refl, g .1)))
+    (λ xs g. refl)
+    (λ at xs g. refl)
+    (λ xs g. refl)
+    (λ x g. (x .1, (subst GoodCount (sym (g .1 .0)) (g .0), g .1 .1), ap (λ (n : ℕ). (n, x .1)) (g .1 .0)))
+    (then {Q = λ at n at′ k. each (alone part) n first tt at′ (λ s. k n)} c (λ at n g. handing (λ s. n) (all-codes part Good bytes log p n first)))
+
+-- ---- fields
+
+pub within-run : (place end : ℕ) (l : Layout Head) → end ≤ limit → within place end l ≡ l
+unfolding within
+within-run place end l h = rw (le-leb end limit h)
+
+pub within-back : (place end : ℕ) (l : Layout Head) (xs : List ℕ) (a : Head) → Finishes (within place end l) xs a → (end ≤ limit) × Finishes l xs a
+unfolding within run
+within-back place end l xs a f =
+    by-cases (leb end limit)
+    (λ e. (leb-true end limit e, subst (λ (b : Bool). Finishes (cond b l (refuse 2 place)) xs a) e f))
+    (λ e. absurd (refused-not-finished (subst (λ (b : Bool). Finishes (cond b l (refuse 2 place)) xs a) e f)))
+
+-- the first w bytes, and what follows
+pub field-run : (w : ℕ) (f : List ℕ → Layout Head) (bs ys : List ℕ) → length bs ≡ w → fieldRun w (bs ++ ys) (run (f (take w (bs ++ ys))) (drop w (bs ++ ys))) ≡ behind w (run (f bs) ys)
+field-run w f bs ys e =
+    field-there w (bs ++ ys) _ (omega (arith, length-append bs ys))
+    ∙ ap₂ (λ (b c : List ℕ). behind w (run (f b) c)) (take-at bs ys w e) (drop-at bs ys w e)
+
+pub field-back : (w : ℕ) (xs : List ℕ) (r : Reading Head) (a : Head) → fieldRun w xs r .answer ≡ finished a → (w ≤ length xs) × (r .answer ≡ finished a)
+field-back w xs r a = field-case (λ (s : Reading Head). s .answer ≡ finished a → (w ≤ length xs) × (r .answer ≡ finished a)) w xs r (λ h e. (h, e)) (λ h e. absurd (finished-not-more (sym e)))
+
+pub number-codes : (start : ℕ → ℕ) (o : Order) (w : ℕ) → Codes (λ at k. furtherAt (start at) at o w k) (λ v. v < 256 ^ w) (bytesOf o w) (λ at v. []) (λ v. v)
+unfolding furtherAt run
+number-codes start o w =
+    record {
+      forth = λ v g at k ys h.
+          let long = length-bytes o w v in
+          ap (λ (l : Layout Head). run l (bytesOf o w v ++ ys)) (within-run (start at) (at + w) (number o w (λ v. k v (at + w))) (omega arith))
+          ∙ field-run w (λ bs. k (value o bs) (at + w)) (bytesOf o w v) ys long
+          ∙ ap₂ (λ (u n : ℕ). behind n (run (k u (at + n)) ys)) (value-bytes o w v g) (sym long);
+      back = λ at k xs a bs h f.
+          let in-limit = within-back (start at) (at + w) (number o w (λ v. k v (at + w))) xs a f in
+          let there = field-back w xs (run (k (value o (take w xs)) (at + w)) (drop w xs)) a (in-limit .1) in
+          let long : length (take w xs) ≡ w = length-take-le w xs (there .0) in
+          let v = value o (take w xs) in
+          let same : bytesOf o w v ≡ take w xs = bytes-value o w (take w xs) (bytes-take w xs bs) long in
+          record {
+            held = v;
+            rest = drop w xs;
+            good = value-small o w xs bs;
+            same = sym (take-append-drop w xs) ∙ ap (λ (l : List ℕ). l ++ drop w xs) (sym same);
+            ends = omega (arith, length-bytes o w v);
+            goes = subst (λ (n : ℕ). Finishes (k v (at + n)) (drop w xs) a) (sym (length-bytes o w v)) (there .1);
+          };
+    }
+
+pub opaque-codes : (h : Hidden) (w : ℕ) → Codes (λ at (k : Unit {0} → ℕ → Layout Head). opaqueAt at h w (k tt)) (Fixed w) (λ bs. bs) (λ at bs. []) (λ bs. tt)
+unfolding opaqueAt run
+opaque-codes hid w =
+    record {
+      forth = λ bs g at k ys h.
+          ap (λ (l : Layout Head). run l (bs ++ ys)) (within-run at (at + w) (opaque hid w (k tt (at + w))) (omega (arith, g .long)))
+          ∙ field-run w (λ _. k tt (at + w)) bs ys (g .long)
+          ∙ ap (λ (n : ℕ). behind n (run (k tt (at + n)) ys)) (sym (g .long));
+      back = λ at k xs a bs h f.
+          let in-limit = within-back at (at + w) (opaque hid w (k tt (at + w))) xs a f in
+          let there = field-back w xs (run (k tt (at + w)) (drop w xs)) a (in-limit .1) in
+          let long : length (take w xs) ≡ w = length-take-le w xs (there .0) in
+          record {
+            held = take w xs;
+            rest = drop w xs;
+            good = record { long = long; bytes = bytes-take w xs bs };
+            same = sym (take-append-drop w xs);
+            ends = omega (arith, in-limit .0);
+            goes = subst (λ (n : ℕ). Finishes (k tt (at + n)) (drop w xs) a) (sym long) (there .1);
+          };
+    }
