@@ -3,6 +3,7 @@ pub mod Reading
 pub mod Codes
 pub mod Outpoint
 pub mod Parts
+pub mod Whole
 pub mod Sound
 pub mod Theorems
 pub mod Loads

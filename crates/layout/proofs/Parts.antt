@@ -22,7 +22,7 @@ use Rattle.layout.proofs.Codes.{Part, after, Finishes, Began, Codes, th
 
 -- ---- counts and lengths
 
-one-byte : (f : ℕ) → f < 256 → bytesOf little 1 f ≡ f ∷ []
+pub one-byte : (f : ℕ) → f < 256 → bytesOf little 1 f ≡ f ∷ []
 unfolding bytesOf
 one-byte f h = ap (λ (n : ℕ). n ∷ []) (omega arith)
 
@@ -559,3 +559,130 @@ module _ (i : ℕ) where
       then {Q = λ _ s at₃ k. bodyAt at₃ scriptBody (outNote 8) λ _. k tt}
       (token-codes noncePart noncePrefix nonce-listing (outNote 6)) λ _ _ _.
       handing (λ n. tt) (body-codes scriptBody (outNote 8)))
+
+-- ---- witnesses
+
+abbrev itemNote : ℕ → ℕ → ℕ → Entry
+itemNote j p n = entry item j 0 (p ∷ n ∷ [])
+
+abbrev pub itemLog : ℕ → ℕ → List ℕ → List Entry
+itemLog j = bodyLog (itemNote j)
+
+item-codes : (j : ℕ) → Codes (λ at (k : Unit {0} → ℕ → Layout Head). itemAt j at (k tt)) Bytes bodyBytes (itemLog j) (λ x. tt)
+unfolding itemAt
+item-codes j = handing (λ n. tt) (body-codes itemBody (itemNote j))
+
+-- items from a number on; the first one starts at a position
+abbrev pub itemsLog : ℕ → ℕ → List (List ℕ) → List Entry
+itemsLog = logAll itemAt Bytes bodyBytes itemLog
+
+abbrev pub stackLog : (ℕ → Entry) → ℕ → ℕ → List (List ℕ) → List Entry
+stackLog note first at xs = note (length xs) ∷ itemsLog first (at + length (compactBytes (length xs))) xs
+
+abbrev StackGood : ℕ → ℕ → List (List ℕ) → Type 0
+StackGood room first xs = ((length xs < 2 ^ 64) × (leb (length xs) (room - first) ≡ true)) × Every Bytes xs
+
+stack-codes : (room first : ℕ) (note : ℕ → Entry) → Codes (λ at k. stackAt room first at note k) (StackGood room first) (listBytes bodyBytes) (stackLog note first) (λ xs. length xs)
+unfolding stackAt
+stack-codes room first note = list-codes itemAt Bytes bodyBytes itemLog first (noting (λ at n. note n) (count-codes (room - first))) item-codes
+
+-- at least a byte for each
+pub compact-some : (n : ℕ) → 1 ≤ length (compactBytes n)
+unfolding compactBytes
+compact-some n =
+    by-cases (leb n 252) (λ e. rw e (omega arith))
+    (λ e. by-cases (leb n 65535) (λ e′. rw (e, e′) (omega arith))
+    (λ e′. by-cases (leb n 4294967295) (λ e″. rw (e, e′, e″) (omega arith)) (λ e″. rw (e, e′, e″) (omega arith))))
+
+pub body-some : (xs : List ℕ) → 1 ≤ length (bodyBytes xs)
+unfolding bodyBytes
+body-some xs = omega (arith, length-append (compactBytes (length xs)) xs, compact-some (length xs))
+
+pub flat-some : {X : Type 0} (f : X → List ℕ) → ((x : X) → 1 ≤ length (f x)) → (xs : List X) → length xs ≤ length (flat f xs)
+unfolding flat
+flat-some f some-byte [] = omega arith
+flat-some f some-byte (x ∷ xs) = omega (arith, some-byte x, flat-some f some-byte xs, length-append (f x) (flat f xs))
+
+pub list-some : {X : Type 0} (f : X → List ℕ) → ((x : X) → 1 ≤ length (f x)) → (xs : List X) → length xs ≤ length (listBytes f xs)
+unfolding listBytes
+list-some f some-byte xs = omega (arith, flat-some f some-byte xs, length-append (compactBytes (length xs)) (flat f xs))
+
+-- the items fit in what is left
+pub record Stacks (room : ℕ) (s : Seen) (x : InputWitness) : Type 0 where
+  pub allowed : InputWitnessAllowed x
+  pub script : leb (length (x .scriptItems)) (room - s .items) ≡ true
+  pub pegin : leb (length (x .peginItems)) (room - (s .items + length (x .scriptItems))) ≡ true
+
+abbrev pub witnessSeen : Seen → InputWitness → Seen
+witnessSeen s x =
+    seen (s .items + length (x .scriptItems) + length (x .peginItems)) (s .empty && eqb (length (x .amountProof)) 0 && eqb (length (x .keysProof)) 0 && eqb (length (x .scriptItems)) 0 && eqb (length (x .peginItems)) 0)
+
+module _ (i : ℕ) where
+  abbrev inNote : ℕ → ℕ → ℕ → Entry
+  inNote c p n = entry input i c (p ∷ n ∷ [])
+
+  abbrev peginNote : ℕ → Entry
+  peginNote n = entry input i 19 (n ∷ [])
+
+  abbrev pub inputWitnessLog : ℕ → ℕ → InputWitness → List Entry
+  inputWitnessLog first at x =
+      let at₁ = at + length (bodyBytes (x .amountProof)) in
+      let at₂ = at₁ + length (bodyBytes (x .keysProof)) in
+      let at₃ = at₂ + length (listBytes bodyBytes (x .scriptItems)) in
+      bodyLog (inNote 13) at (x .amountProof) ++ (bodyLog (inNote 15) at₁ (x .keysProof) ++ (stackLog (inNote 17 first) first at₂ (x .scriptItems) ++ stackLog peginNote (first + length (x .scriptItems)) at₃ (x .peginItems)))
+
+module _ (room i : ℕ) (s : Seen) where
+  pub inputWitness-codes : Codes (λ at k. inputWitnessAt room i s at k) (Stacks room s) inputWitnessBytes (inputWitnessLog i (s .items)) (witnessSeen s)
+  unfolding inputWitnessAt inputWitnessBytes
+  inputWitness-codes =
+      seen-as (λ x. (x .amountProof, (x .keysProof, (x .scriptItems, x .peginItems))))
+      (λ x g h.
+      let a = g .allowed in
+      let b₁ = bodyBytes (x .amountProof) in
+      let b₂ = bodyBytes (x .keysProof) in
+      let b₃ = listBytes bodyBytes (x .scriptItems) in
+      let b₄ = listBytes bodyBytes (x .peginItems) in
+      let long : length b₃ + length b₄ ≤ limit = omega (arith, length-append b₁ (b₂ ++ (b₃ ++ b₄)), length-append b₂ (b₃ ++ b₄), length-append b₃ b₄) in
+      let few = list-some bodyBytes body-some (x .scriptItems) in
+      let few′ = list-some bodyBytes body-some (x .peginItems) in
+      (a .amountProof, (a .keysProof, (((omega arith, g .script), a .scriptItems), ((omega arith, g .pegin), a .peginItems)))))
+      (λ x g. refl)
+      (λ at x g. refl)
+      (λ x g. refl)
+      (λ x g. (
+        record { amountProof = x .0; keysProof = x .1 .0; scriptItems = x .1 .1 .0; peginItems = x .1 .1 .1 },
+        record {
+          allowed = record { amountProof = g .0; keysProof = g .1 .0; scriptItems = g .1 .1 .0 .1; peginItems = g .1 .1 .1 .1 };
+          script = g .1 .1 .0 .0 .1;
+          pegin = g .1 .1 .1 .0 .1;
+        },
+        refl,
+      ))
+      (then {Q = λ _ amount at₁ k. bodyAt at₁ proofBody (inNote i 15) λ keys at₂. stackAt room (s .items) at₂ (inNote i 17 (s .items)) λ script at₃. stackAt room (s .items + script) at₃ (peginNote i) λ pegin. k (seen (s .items + script + pegin) (s .empty && eqb amount 0 && eqb keys 0 && eqb script 0 && eqb pegin 0))}
+      (body-codes proofBody (inNote i 13)) λ _ amount _.
+      then {Q = λ _ keys at₂ k. stackAt room (s .items) at₂ (inNote i 17 (s .items)) λ script at₃. stackAt room (s .items + script) at₃ (peginNote i) λ pegin. k (seen (s .items + script + pegin) (s .empty && eqb (length amount) 0 && eqb keys 0 && eqb script 0 && eqb pegin 0))}
+      (body-codes proofBody (inNote i 15)) λ _ keys _.
+      then {Q = λ _ script at₃ k. stackAt room (s .items + script) at₃ (peginNote i) λ pegin. k (seen (s .items + script + pegin) (s .empty && eqb (length amount) 0 && eqb (length keys) 0 && eqb script 0 && eqb pegin 0))}
+      (stack-codes room (s .items) (inNote i 17 (s .items))) λ _ script _.
+      handing (λ pegin. seen (s .items + length script + pegin) (s .empty && eqb (length amount) 0 && eqb (length keys) 0 && eqb (length script) 0 && eqb pegin 0))
+      (stack-codes room (s .items + length script) (peginNote i)))
+
+abbrev pub outputSeen : Seen → OutputWitness → Seen
+outputSeen s x = seen (s .items) (s .empty && eqb (length (x .surjectionProof)) 0 && eqb (length (x .rangeProof)) 0)
+
+module _ (i : ℕ) where
+  abbrev pub outputWitnessLog : ℕ → OutputWitness → List Entry
+  outputWitnessLog at x = bodyLog (outNote i 10) at (x .surjectionProof) ++ bodyLog (outNote i 12) (at + length (bodyBytes (x .surjectionProof))) (x .rangeProof)
+
+  pub outputWitness-codes : (s : Seen) → Codes (λ at k. outputWitnessAt i s at k) OutputWitnessAllowed outputWitnessBytes outputWitnessLog (outputSeen s)
+  unfolding outputWitnessAt outputWitnessBytes
+  outputWitness-codes s =
+      seen-as (λ x. (x .surjectionProof, x .rangeProof))
+      (λ x g h. (g .surjectionProof, g .rangeProof))
+      (λ x g. refl)
+      (λ at x g. refl)
+      (λ x g. refl)
+      (λ x g. (record { surjectionProof = x .0; rangeProof = x .1 }, record { surjectionProof = g .0; rangeProof = g .1 }, refl))
+      (then {Q = λ _ surjection at₁ k. bodyAt at₁ proofBody (outNote i 12) λ range. k (seen (s .items) (s .empty && eqb surjection 0 && eqb range 0))}
+      (body-codes proofBody (outNote i 10)) λ _ surjection _.
+      handing (λ range. seen (s .items) (s .empty && eqb (length surjection) 0 && eqb range 0)) (body-codes proofBody (outNote i 12)))

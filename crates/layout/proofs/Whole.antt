@@ -1,0 +1,323 @@
+-- The whole transaction: the layout codes what 01 allows and the tables have room for.
+use Prim.Native.Nat.{ℕ, zero, suc, _+_, _-_, _*_, _^_, _<_, _≤_}
+use mathlib.Core.Path.{_≡_, refl, sym, _∙_, ap, ap₂, subst}
+use mathlib.Core.Bool.{Bool, true, false, cond, not, _&&_, _||_}
+use mathlib.Core.List.{List, [], _∷_, _++_, append-assoc, append-nil}
+use mathlib.Core.Option.{Option, none, some}
+use native.Mathlib.Nat.{add-assoc, add-zero, zero-add}
+use native.Mathlib.Omega.{arith}
+use lib.Dec.{leb, eqb}
+use lib.ListN.{length, length-append}
+use borrow.Author.Tests.{leb-true, leb-false, le-leb, lt-leb, eqb-true, eqb-false, eq-eqb, ne-eqb}
+use Rattle.layout.specs.Number.{little, bytesOf, Bytes}
+use Rattle.layout.specs.Layout.{Layout, refuse, accept, finished, Reading, reading, Entry, run}
+use Rattle.layout.specs.Transaction.{Head, Room, limit, numberAt, countAt, each, alone, Seen, seen, inputAt, outputAt, inputWitnessAt, outputWitnessAt, transaction}
+use Rattle.layout.specs.Contents.{Token, absent, present, valueBytes, issuanceBytes, rawVout, Input, Output, InputWitness, OutputWitness, Witnesses, Contents, compactBytes, flat, bodyBytes, listBytes, tokenBytes, inputBytes, outputBytes, inputWitnessBytes, outputWitnessBytes, flagOf, witnessesBytes, contentsBytes, Every, InputAllowed, OutputAllowed, InputWitnessAllowed, OutputWitnessAllowed, inputEmpty, outputEmpty, all, WitnessesAllowed, MaybeAllowed, Allowed}
+use Rattle.layout.specs.Records.{itemsOf, sum, itemCount, headOf, Fits}
+use Rattle.layout.proofs.Number.{length-bytes}
+use Rattle.layout.proofs.Reading.{by-cases}
+use Rattle.layout.proofs.Outpoint.{true-not-false}
+use Rattle.layout.proofs.Codes.{Part, after, Finishes, Began, Codes, then, noting, passing, failing, seen-as, began-as, handing, if-true, if-false, empty-codes, refuse-codes, GoodEach, logEach, nextEach, each-codes, logAll, list-codes, number-codes}
+use Rattle.layout.proofs.Parts.{one-byte, count-codes, inputLog, input-codes, outputLog, output-codes, Stacks, witnessSeen, inputWitnessLog, inputWitness-codes, outputSeen, outputWitnessLog, outputWitness-codes, list-some, compact-some}
+
+-- ---- what later witnesses need of earlier ones
+
+and-all : (a b c d e f : Bool) → (((((a && b) && c) && d) && e) && f) ≡ (a && ((((b && c) && d) && e) && f))
+and-all true b c d e f = refl
+and-all false b c d e f = refl
+
+and-two : (a b c d : Bool) → (((a && b) && c) && d) ≡ (a && ((b && c) && d))
+and-two true b c d = refl
+and-two false b c d = refl
+
+and-true : (a : Bool) → (a && true) ≡ a
+and-true true = refl
+and-true false = refl
+
+module _ (room : ℕ) where
+  abbrev InputsGood : Seen → List InputWitness → Type 0
+  InputsGood = GoodEach (inputWitnessAt room) (Stacks room) inputWitnessBytes (λ i s. inputWitnessLog i (s .items)) witnessSeen
+
+  abbrev inputsSeen : Seen → List InputWitness → Seen
+  inputsSeen = nextEach (inputWitnessAt room) (Stacks room) inputWitnessBytes (λ i s. inputWitnessLog i (s .items)) witnessSeen
+
+  abbrev pub inputWitnessesLog : ℕ → ℕ → ℕ → List InputWitness → List Entry
+  inputWitnessesLog i first at [] = []
+  inputWitnessesLog i first at (x ∷ xs) = inputWitnessLog i first at x ++ inputWitnessesLog (suc i) (first + length (x .scriptItems) + length (x .peginItems)) (at + length (inputWitnessBytes x)) xs
+
+  inputs-log : (i : ℕ) (s : Seen) (at : ℕ) (xs : List InputWitness) → inputWitnessesLog i (s .items) at xs ≡ logEach (inputWitnessAt room) (Stacks room) inputWitnessBytes (λ i s. inputWitnessLog i (s .items)) witnessSeen i s at xs
+  inputs-log i s at [] = refl
+  inputs-log i s at (x ∷ xs) = ap (λ (es : List Entry). inputWitnessLog i (s .items) at x ++ es) (inputs-log (suc i) (witnessSeen s x) (at + length (inputWitnessBytes x)) xs)
+
+  inputs-seen : (n : ℕ) (b : Bool) (xs : List InputWitness) → inputsSeen (seen n b) xs ≡ seen (n + sum itemsOf xs) (b && all inputEmpty xs)
+  unfolding sum all
+  inputs-seen n b [] = ap₂ seen (sym (add-zero n)) (sym (and-true b))
+  inputs-seen n b (x ∷ xs) =
+      inputs-seen (witnessSeen (seen n b) x .items) (witnessSeen (seen n b) x .empty) xs
+      ∙ ap₂ seen (omega arith) (and-all b (eqb (length (x .amountProof)) 0) (eqb (length (x .keysProof)) 0) (eqb (length (x .scriptItems)) 0) (eqb (length (x .peginItems)) 0) (all inputEmpty xs))
+
+  -- the items of all fit in the room exactly if each stack fits in what is left
+  stacks-fit : (s : Seen) (xs : List InputWitness) → s .items + sum itemsOf xs ≤ room → Every InputWitnessAllowed xs → InputsGood s xs
+  unfolding sum
+  stacks-fit s [] h g = tt
+  stacks-fit s (x ∷ xs) h g = (
+    record { allowed = g .0; script = le-leb (length (x .scriptItems)) (room - s .items) (omega arith); pegin = le-leb (length (x .peginItems)) (room - (s .items + length (x .scriptItems))) (omega arith) },
+    stacks-fit (witnessSeen s x) xs (omega arith) (g .1),
+  )
+
+  fit-stacks : (s : Seen) (xs : List InputWitness) → s .items ≤ room → InputsGood s xs → (s .items + sum itemsOf xs ≤ room) × Every InputWitnessAllowed xs
+  unfolding sum
+  fit-stacks s [] h g = (omega arith, tt)
+  fit-stacks s (x ∷ xs) h g =
+      let a = leb-true (length (x .scriptItems)) (room - s .items) (g .0 .script) in
+      let b = leb-true (length (x .peginItems)) (room - (s .items + length (x .scriptItems))) (g .0 .pegin) in
+      let r = fit-stacks (witnessSeen s x) xs (omega arith) (g .1) in
+      (omega (arith, r .0), (g .0 .allowed, r .1))
+
+abbrev OutputsGood : Seen → List OutputWitness → Type 0
+OutputsGood = GoodEach outputWitnessAt (λ s. OutputWitnessAllowed) outputWitnessBytes (λ i s. outputWitnessLog i) outputSeen
+
+abbrev outputsSeen : Seen → List OutputWitness → Seen
+outputsSeen = nextEach outputWitnessAt (λ s. OutputWitnessAllowed) outputWitnessBytes (λ i s. outputWitnessLog i) outputSeen
+
+abbrev pub outputWitnessesLog : ℕ → ℕ → List OutputWitness → List Entry
+outputWitnessesLog i at [] = []
+outputWitnessesLog i at (x ∷ xs) = outputWitnessLog i at x ++ outputWitnessesLog (suc i) (at + length (outputWitnessBytes x)) xs
+
+outputs-log : (i : ℕ) (s : Seen) (at : ℕ) (xs : List OutputWitness) → outputWitnessesLog i at xs ≡ logEach outputWitnessAt (λ s. OutputWitnessAllowed) outputWitnessBytes (λ i s. outputWitnessLog i) outputSeen i s at xs
+outputs-log i s at [] = refl
+outputs-log i s at (x ∷ xs) = ap (λ (es : List Entry). outputWitnessLog i at x ++ es) (outputs-log (suc i) (outputSeen s x) (at + length (outputWitnessBytes x)) xs)
+
+outputs-seen : (n : ℕ) (b : Bool) (xs : List OutputWitness) → outputsSeen (seen n b) xs ≡ seen n (b && all outputEmpty xs)
+unfolding all
+outputs-seen n b [] = ap (seen n) (sym (and-true b))
+outputs-seen n b (x ∷ xs) = outputs-seen n (outputSeen (seen n b) x .empty) xs ∙ ap (seen n) (and-two b (eqb (length (x .surjectionProof)) 0) (eqb (length (x .rangeProof)) 0) (all outputEmpty xs))
+
+outputs-good : (s : Seen) (xs : List OutputWitness) → Every OutputWitnessAllowed xs → OutputsGood s xs
+outputs-good s [] g = tt
+outputs-good s (x ∷ xs) g = (g .0, outputs-good (outputSeen s x) xs (g .1))
+
+good-outputs : (s : Seen) (xs : List OutputWitness) → OutputsGood s xs → Every OutputWitnessAllowed xs
+good-outputs s [] g = tt
+good-outputs s (x ∷ xs) g = (g .0, good-outputs (outputSeen s x) xs (g .1))
+
+-- ---- the witnesses
+
+module _ (room ins outs : ℕ) where
+  abbrev witnessed : Part ℕ
+  witnessed at k =
+      each (inputWitnessAt room) ins 0 (seen 0 true) at λ s₁ at₁.
+      each outputWitnessAt outs 0 s₁ at₁ λ s₂ at₂.
+      cond (s₂ .empty) (refuse 8 4) (k (s₂ .items) at₂)
+
+  last-seen : (ws : List InputWitness) (vs : List OutputWitness) → outputsSeen (inputsSeen room (seen 0 true) ws) vs ≡ seen (sum itemsOf ws) (all inputEmpty ws && all outputEmpty vs)
+  last-seen ws vs =
+      ap (λ (s : Seen). outputsSeen s vs) (inputs-seen room 0 true ws)
+      ∙ outputs-seen (0 + sum itemsOf ws) (all inputEmpty ws) vs
+      ∙ ap (λ (n : ℕ). seen n (all inputEmpty ws && all outputEmpty vs)) (zero-add (sum itemsOf ws))
+
+  pub record Witnessed (x : Witnesses) : Type 0 where
+    pub allowed : WitnessesAllowed ins outs x
+    pub room-for : sum itemsOf (x .inputs) ≤ room
+
+  abbrev pub witnessesLog : ℕ → Witnesses → List Entry
+  witnessesLog at x = inputWitnessesLog room 0 0 at (x .inputs) ++ outputWitnessesLog 0 (at + length (flat inputWitnessBytes (x .inputs))) (x .outputs)
+
+  witnessed-codes : Codes witnessed Witnessed (λ x. flat inputWitnessBytes (x .inputs) ++ flat outputWitnessBytes (x .outputs)) witnessesLog (λ x. sum itemsOf (x .inputs))
+  witnessed-codes =
+      seen-as (λ x. (x .inputs, x .outputs))
+      (λ x g h. (
+        (g .allowed .inputs, stacks-fit room (seen 0 true) (x .inputs) (omega (arith, g .room-for)) (g .allowed .inputsAllowed)),
+        ((g .allowed .outputs, outputs-good (inputsSeen room (seen 0 true) (x .inputs)) (x .outputs) (g .allowed .outputsAllowed)), ap (λ (s : Seen). s .empty) (last-seen (x .inputs) (x .outputs)) ∙ g .allowed .notEmpty),
+      ))
+      (λ x g. refl)
+      (λ at x g. ap₂ (λ (es fs : List Entry). es ++ fs) (inputs-log room 0 (seen 0 true) at (x .inputs)) (outputs-log 0 (inputsSeen room (seen 0 true) (x .inputs)) (at + length (flat inputWitnessBytes (x .inputs))) (x .outputs)))
+      (λ x g. sym (ap (λ (s : Seen). s .items) (last-seen (x .inputs) (x .outputs))))
+      (λ x g.
+      let fit = fit-stacks room (seen 0 true) (x .0) (omega arith) (g .0 .1) in (
+        record { inputs = x .0; outputs = x .1 },
+        record {
+          allowed = record {
+            inputs = g .0 .0;
+            outputs = g .1 .0 .0;
+            inputsAllowed = fit .1;
+            outputsAllowed = good-outputs (inputsSeen room (seen 0 true) (x .0)) (x .1) (g .1 .0 .1);
+            notEmpty = sym (ap (λ (s : Seen). s .empty) (last-seen (x .0) (x .1))) ∙ g .1 .1;
+          };
+          room-for = omega (arith, fit .0);
+        },
+        refl,
+      ))
+      (then {Q = λ _ s₁ at₁ k. each outputWitnessAt outs 0 s₁ at₁ λ s₂ at₂. cond (s₂ .empty) (refuse 8 4) (k (s₂ .items) at₂)}
+      (each-codes (inputWitnessAt room) (Stacks room) inputWitnessBytes (λ i s. inputWitnessLog i (s .items)) witnessSeen (inputWitness-codes room) ins 0 (seen 0 true)) λ _ ws _.
+      handing (λ s. s .items) (failing (λ s. s .empty) 8 4 (each-codes outputWitnessAt (λ s. OutputWitnessAllowed) outputWitnessBytes (λ i s. outputWitnessLog i) outputSeen outputWitness-codes outs 0 (inputsSeen room (seen 0 true) ws))))
+
+  -- With flag 1: the witnesses. 7: a flag above 1.
+  module _ (flag : ℕ) where
+    abbrev tailAt : Part ℕ
+    tailAt at k = cond (eqb flag 0) (k 0 at) (cond (eqb flag 1) (witnessed at k) (refuse 7 4))
+
+    abbrev otherwise : Part ℕ
+    otherwise at k = cond (eqb flag 1) (witnessed at k) (refuse 7 4)
+
+    abbrev TailGood : Option Witnesses → Type 0
+    TailGood o = (flagOf o ≡ flag) × MaybeAllowed ins outs o × (itemCount o ≤ room)
+
+    plain : eqb flag 0 ≡ true → Codes tailAt (λ (x : Unit {0}). Unit {0}) (λ x. []) (λ at x. []) (λ x. 0)
+    plain e = if-true (eqb flag 0) (λ at k. k 0 at) otherwise e (empty-codes 0)
+
+    flagged : eqb flag 0 ≡ false → eqb flag 1 ≡ true → Codes tailAt Witnessed (λ x. flat inputWitnessBytes (x .inputs) ++ flat outputWitnessBytes (x .outputs)) witnessesLog (λ x. sum itemsOf (x .inputs))
+    flagged e₀ e₁ = if-false (eqb flag 0) (λ at k. k 0 at) otherwise e₀ (if-true (eqb flag 1) witnessed (λ at k. refuse 7 4) e₁ witnessed-codes)
+
+    unflagged : eqb flag 0 ≡ false → eqb flag 1 ≡ false → Codes tailAt (λ (x : Unit {0}). ⊥) (λ x. []) (λ at x. []) (λ x. 0)
+    unflagged e₀ e₁ = if-false (eqb flag 0) (λ at k. k 0 at) otherwise e₀ (if-false (eqb flag 1) witnessed (λ at k. refuse 7 4) e₁ (refuse-codes 7 4 (λ x g. g)))
+
+    abbrev pub tailLog : ℕ → Option Witnesses → List Entry
+    tailLog at none = []
+    tailLog at (some x) = witnessesLog at x
+
+    tail-forth : (o : Option Witnesses) → TailGood o → (at : ℕ) (k : ℕ → ℕ → Layout Head) (ys : List ℕ) → at + length (witnessesBytes o) ≤ limit → run (tailAt at k) (witnessesBytes o ++ ys) ≡ after (length (witnessesBytes o)) (tailLog at o) (run (k (itemCount o) (at + length (witnessesBytes o))) ys)
+    unfolding witnessesBytes
+    tail-forth none g = plain (eq-eqb flag 0 (sym (g .0))) .forth tt tt
+    tail-forth (some x) g = flagged (ne-eqb flag 0 (λ e. omega (arith, g .0))) (eq-eqb flag 1 (sym (g .0))) .forth x (record { allowed = g .1; room-for = g .2 })
+
+    tail-codes : Codes tailAt TailGood witnessesBytes tailLog itemCount
+    unfolding witnessesBytes
+    tail-codes =
+        record {
+          forth = tail-forth;
+          back = λ at k xs a bs h f.
+              by-cases (eqb flag 0)
+              (λ e. began-as (plain e .back at k xs a bs h f) none (sym (eqb-true flag 0 e), tt, omega arith) refl refl)
+              (λ e₀. by-cases (eqb flag 1)
+              (λ e. let u = flagged e₀ e .back at k xs a bs h f in began-as u (some (u .held)) (sym (eqb-true flag 1 e), u .good .allowed, u .good .room-for) refl refl)
+              (λ e. absurd (unflagged e₀ e .back at k xs a bs h f .good)));
+        }
+
+-- ---- the transaction
+
+-- `transaction`, with what follows it left open
+abbrev wholeAt : Room → Part (ℕ → Head)
+wholeAt room at k =
+    numberAt at little 4 λ version at₁.
+    numberAt at₁ little 1 λ flag at₂.
+    countAt at₂ (room .inputs) λ ins at₃.
+    each (alone inputAt) ins 0 tt at₃ λ _ at₄.
+    countAt at₄ (room .outputs) λ outs at₅.
+    each (alone outputAt) outs 0 tt at₅ λ _ at₆.
+    numberAt at₆ little 4 λ locktime at₇.
+    tailAt (room .items) ins outs flag at₇ λ n. k (λ bytes. record { version = version; flag = flag; inputs = ins; outputs = outs; items = n; locktime = locktime; bytes = bytes })
+
+whole-transaction : (room : Room) → transaction room ≡ wholeAt room 0 (λ h at. accept (h at))
+unfolding transaction
+whole-transaction room = refl
+
+-- allowed but for the size limit, and with room
+pub record Formed (room : Room) (x : Contents) : Type 0 where
+  pub version : x .version < 2 ^ 32
+  pub inputs : Every InputAllowed (x .inputs)
+  pub outputs : Every OutputAllowed (x .outputs)
+  pub locktime : x .locktime < 2 ^ 32
+  pub witnesses : MaybeAllowed (length (x .inputs)) (length (x .outputs)) (x .witnesses)
+  pub fits : Fits room x
+
+pub input-some : (x : Input) → 1 ≤ length (inputBytes x)
+unfolding inputBytes
+input-some x =
+    let raw = bytesOf little 4 (rawVout (x .vout) (x .flags)) in
+    let rest = bodyBytes (x .script) ++ (bytesOf little 4 (x .sequence) ++ issuanceBytes (x .issuance)) in
+    omega (arith, length-append (x .txid) (raw ++ rest), length-append raw rest, length-bytes little 4 (rawVout (x .vout) (x .flags)))
+
+token-some : (t : Token) → 1 ≤ length (tokenBytes t)
+unfolding tokenBytes
+token-some absent = omega arith
+token-some (present p part) = omega arith
+
+pub output-some : (x : Output) → 1 ≤ length (outputBytes x)
+unfolding outputBytes
+output-some x = omega (arith, token-some (x .asset), length-append (tokenBytes (x .asset)) (valueBytes (x .value) ++ (tokenBytes (x .nonce) ++ bodyBytes (x .script))))
+
+abbrev pub inputsLog : ℕ → ℕ → List Input → List Entry
+inputsLog = logAll inputAt InputAllowed inputBytes inputLog
+
+abbrev pub outputsLog : ℕ → ℕ → List Output → List Entry
+outputsLog = logAll outputAt OutputAllowed outputBytes outputLog
+
+pub flag-small : (o : Option Witnesses) → flagOf o < 256
+flag-small none = omega arith
+flag-small (some x) = omega arith
+
+module _ (room : Room) where
+  abbrev pub wholeLog : ℕ → Contents → List Entry
+  wholeLog at x =
+      let at₁ = at + 5 in
+      let at₂ = at₁ + length (listBytes inputBytes (x .inputs)) in
+      let at₃ = at₂ + length (listBytes outputBytes (x .outputs)) + 4 in
+      inputsLog 0 (at₁ + length (compactBytes (length (x .inputs)))) (x .inputs)
+      ++ (outputsLog 0 (at₂ + length (compactBytes (length (x .outputs)))) (x .outputs)
+      ++ tailLog (room .items) (length (x .inputs)) (length (x .outputs)) (flagOf (x .witnesses)) at₃ (x .witnesses))
+
+  abbrev headBy : Contents → ℕ → Head
+  headBy x bytes = record { version = x .version; flag = flagOf (x .witnesses); inputs = length (x .inputs); outputs = length (x .outputs); items = itemCount (x .witnesses); locktime = x .locktime; bytes = bytes }
+
+  whole-codes : Codes (wholeAt room) (Formed room) contentsBytes wholeLog headBy
+  unfolding contentsBytes
+  whole-codes =
+      seen-as (λ x. (x .version, (flagOf (x .witnesses), (x .inputs, (x .outputs, (x .locktime, x .witnesses))))))
+      (λ x g h.
+      let b₁ = bytesOf little 4 (x .version) in
+      let b₃ = listBytes inputBytes (x .inputs) in
+      let b₄ = listBytes outputBytes (x .outputs) in
+      let b₅ = bytesOf little 4 (x .locktime) ++ witnessesBytes (x .witnesses) in
+      let long : length b₃ + length b₄ ≤ limit = omega (arith, length-append b₁ (flagOf (x .witnesses) ∷ (b₃ ++ (b₄ ++ b₅))), length-append b₃ (b₄ ++ b₅), length-append b₄ b₅) in
+      let few = list-some inputBytes input-some (x .inputs) in
+      let few′ = list-some outputBytes output-some (x .outputs) in (
+        g .version,
+        (
+          flag-small (x .witnesses),
+          (
+            ((omega arith, le-leb (length (x .inputs)) (room .inputs) (g .fits .inputs)), g .inputs),
+            (((omega arith, le-leb (length (x .outputs)) (room .outputs) (g .fits .outputs)), g .outputs), (g .locktime, (refl, g .witnesses, g .fits .items))),
+          ),
+        ),
+      ))
+      (λ x g. ap (λ (l : List ℕ). bytesOf little 4 (x .version) ++ (l ++ (listBytes inputBytes (x .inputs) ++ (listBytes outputBytes (x .outputs) ++ (bytesOf little 4 (x .locktime) ++ witnessesBytes (x .witnesses)))))) (sym (one-byte (flagOf (x .witnesses)) (flag-small (x .witnesses)))))
+      (λ at x g.
+      let l₁ = length-bytes little 4 (x .version) in
+      let l₂ = length-bytes little 1 (flagOf (x .witnesses)) in
+      let l₃ = length-bytes little 4 (x .locktime) in
+      let a = at + length (bytesOf little 4 (x .version)) + length (bytesOf little 1 (flagOf (x .witnesses))) in
+      let e₁ : at + 5 ≡ a = omega arith in
+      let b = length (listBytes inputBytes (x .inputs)) in
+      let c = length (listBytes outputBytes (x .outputs)) in
+      let e₃ : at + 5 + b + c + 4 ≡ a + b + c + length (bytesOf little 4 (x .locktime)) = omega arith in
+      λ j.
+      inputsLog 0 (e₁ j + length (compactBytes (length (x .inputs)))) (x .inputs)
+      ++ (outputsLog 0 (e₁ j + b + length (compactBytes (length (x .outputs)))) (x .outputs)
+      ++ tailLog (room .items) (length (x .inputs)) (length (x .outputs)) (flagOf (x .witnesses)) (e₃ j) (x .witnesses)))
+      (λ x g. refl)
+      (λ x g.
+      let rest = x .1 .1 .1 .1 in
+      let h = g .1 .1 .1 .1 in (
+        record { version = x .0; inputs = x .1 .1 .0; outputs = x .1 .1 .1 .0; locktime = rest .0; witnesses = rest .1 },
+        record {
+          version = g .0;
+          inputs = g .1 .1 .0 .1;
+          outputs = g .1 .1 .1 .0 .1;
+          locktime = h .0;
+          witnesses = h .1 .1;
+          fits = record { inputs = leb-true (length (x .1 .1 .0)) (room .inputs) (g .1 .1 .0 .0 .1); outputs = leb-true (length (x .1 .1 .1 .0)) (room .outputs) (g .1 .1 .1 .0 .0 .1); items = h .1 .2 };
+        },
+        ap (λ (f : ℕ). (x .0, (f, x .1 .1))) (h .1 .0),
+      ))
+      (then {Q = λ _ version at₁ k. numberAt at₁ little 1 λ flag at₂. countAt at₂ (room .inputs) λ ins at₃. each (alone inputAt) ins 0 tt at₃ λ _ at₄. countAt at₄ (room .outputs) λ outs at₅. each (alone outputAt) outs 0 tt at₅ λ _ at₆. numberAt at₆ little 4 λ locktime at₇. tailAt (room .items) ins outs flag at₇ λ n. k (λ bytes. record { version = version; flag = flag; inputs = ins; outputs = outs; items = n; locktime = locktime; bytes = bytes })}
+      (number-codes (λ at. at) little 4) λ _ version _.
+      then {Q = λ _ flag at₂ k. countAt at₂ (room .inputs) λ ins at₃. each (alone inputAt) ins 0 tt at₃ λ _ at₄. countAt at₄ (room .outputs) λ outs at₅. each (alone outputAt) outs 0 tt at₅ λ _ at₆. numberAt at₆ little 4 λ locktime at₇. tailAt (room .items) ins outs flag at₇ λ n. k (λ bytes. record { version = version; flag = flag; inputs = ins; outputs = outs; items = n; locktime = locktime; bytes = bytes })}
+      (number-codes (λ at. at) little 1) λ _ flag _.
+      then {Q = λ _ ins at₄ k. countAt at₄ (room .outputs) λ outs at₅. each (alone outputAt) outs 0 tt at₅ λ _ at₆. numberAt at₆ little 4 λ locktime at₇. tailAt (room .items) ins outs flag at₇ λ n. k (λ bytes. record { version = version; flag = flag; inputs = ins; outputs = outs; items = n; locktime = locktime; bytes = bytes })}
+      (list-codes inputAt InputAllowed inputBytes inputLog 0 (count-codes (room .inputs)) input-codes) λ _ ins _.
+      then {Q = λ _ outs at₆ k. numberAt at₆ little 4 λ locktime at₇. tailAt (room .items) (length ins) outs flag at₇ λ n. k (λ bytes. record { version = version; flag = flag; inputs = length ins; outputs = outs; items = n; locktime = locktime; bytes = bytes })}
+      (list-codes outputAt OutputAllowed outputBytes outputLog 0 (count-codes (room .outputs)) output-codes) λ _ outs _.
+      then {Q = λ _ locktime at₇ k. tailAt (room .items) (length ins) (length outs) flag at₇ λ n. k (λ bytes. record { version = version; flag = flag; inputs = length ins; outputs = length outs; items = n; locktime = locktime; bytes = bytes })}
+      (number-codes (λ at. at) little 4) λ _ locktime _.
+      handing (λ n bytes. record { version = version; flag = flag; inputs = length ins; outputs = length outs; items = n; locktime = locktime; bytes = bytes }) (tail-codes (room .items) (length ins) (length outs) flag))
