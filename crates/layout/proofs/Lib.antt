@@ -4,6 +4,7 @@ pub mod Codes
 pub mod Outpoint
 pub mod Parts
 pub mod Whole
+pub mod Laying
 pub mod Sound
 pub mod Theorems
 pub mod Loads

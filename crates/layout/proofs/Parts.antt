@@ -405,16 +405,16 @@ null-prefix (explicit v) g = refl
 null-prefix (commitment p part) g = listed-other commitmentPrefix p 0 (g .0) refl
 
 module _ (i : ℕ) where
-  abbrev amountNote : ℕ → ℕ → Entry
+  abbrev pub amountNote : ℕ → ℕ → Entry
   amountNote p at = entry input i 7 (p ∷ [])
 
-  abbrev amountHalves : ℕ → ℕ → Entry
+  abbrev pub amountHalves : ℕ → ℕ → Entry
   amountHalves h l = entry input i 8 (h ∷ l ∷ [])
 
-  abbrev keysNote : ℕ → ℕ → Entry
+  abbrev pub keysNote : ℕ → ℕ → Entry
   keysNote p at = entry input i 10 (p ∷ [])
 
-  abbrev keysHalves : ℕ → ℕ → Entry
+  abbrev pub keysHalves : ℕ → ℕ → Entry
   keysHalves h l = entry input i 11 (h ∷ l ∷ [])
 
   abbrev pub issuanceLog : ℕ → Issuance → List Entry
@@ -477,7 +477,7 @@ module _ (i : ℕ) where
               (λ e. let below = leb-false 2 (flags raw) (sym (issuing raw) ∙ e) in began-as (without-flag e .back at k xs a bs h f) none (omega arith) refl refl);
         }
 
-  abbrev scriptNote : ℕ → ℕ → Entry
+  abbrev pub scriptNote : ℕ → ℕ → Entry
   scriptNote p n = entry input i 3 (p ∷ n ∷ [])
 
   abbrev pub inputLog : ℕ → Input → List Entry
@@ -533,7 +533,7 @@ module _ (i : ℕ) where
 -- ---- output
 
 module _ (i : ℕ) where
-  abbrev outNote : ℕ → ℕ → ℕ → Entry
+  abbrev pub outNote : ℕ → ℕ → ℕ → Entry
   outNote c p n = entry output i c (p ∷ n ∷ [])
 
   abbrev pub outputLog : ℕ → Output → List Entry
@@ -562,7 +562,7 @@ module _ (i : ℕ) where
 
 -- ---- witnesses
 
-abbrev itemNote : ℕ → ℕ → ℕ → Entry
+abbrev pub itemNote : ℕ → ℕ → ℕ → Entry
 itemNote j p n = entry item j 0 (p ∷ n ∷ [])
 
 abbrev pub itemLog : ℕ → ℕ → List ℕ → List Entry
@@ -618,10 +618,10 @@ witnessSeen s x =
     seen (s .items + length (x .scriptItems) + length (x .peginItems)) (s .empty && eqb (length (x .amountProof)) 0 && eqb (length (x .keysProof)) 0 && eqb (length (x .scriptItems)) 0 && eqb (length (x .peginItems)) 0)
 
 module _ (i : ℕ) where
-  abbrev inNote : ℕ → ℕ → ℕ → Entry
+  abbrev pub inNote : ℕ → ℕ → ℕ → Entry
   inNote c p n = entry input i c (p ∷ n ∷ [])
 
-  abbrev peginNote : ℕ → Entry
+  abbrev pub peginNote : ℕ → Entry
   peginNote n = entry input i 19 (n ∷ [])
 
   abbrev pub inputWitnessLog : ℕ → ℕ → InputWitness → List Entry

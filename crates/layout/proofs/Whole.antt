@@ -321,3 +321,27 @@ module _ (room : Room) where
       then {Q = λ _ locktime at₇ k. tailAt (room .items) (length ins) (length outs) flag at₇ λ n. k (λ bytes. record { version = version; flag = flag; inputs = length ins; outputs = length outs; items = n; locktime = locktime; bytes = bytes })}
       (number-codes (λ at. at) little 4) λ _ locktime _.
       handing (λ n bytes. record { version = version; flag = flag; inputs = length ins; outputs = length outs; items = n; locktime = locktime; bytes = bytes }) (tail-codes (room .items) (length ins) (length outs) flag))
+
+-- ---- what it comes to
+
+-- the bytes of what is formed, and anything behind them, are read as it
+pub reads : (room : Room) (x : Contents) → Formed room x → length (contentsBytes x) ≤ limit → (ys : List ℕ) → run (transaction room) (contentsBytes x ++ ys) ≡ reading (finished (headOf x)) (length (contentsBytes x)) (wholeLog room 0 x)
+unfolding run
+reads room x g h ys =
+    let n = length (contentsBytes x) in
+    ap (λ (l : Layout Head). run l (contentsBytes x ++ ys)) (whole-transaction room)
+    ∙ whole-codes room .forth x g 0 (λ h at. accept (h at)) ys (omega arith)
+    ∙ λ j. reading (finished (headBy room x (zero-add n j))) (add-zero n j) (append-nil (wholeLog room 0 x) j)
+
+-- what a finished reading began with
+pub record Found (room : Room) (xs : List ℕ) : Type 0 where
+  pub contents : Contents
+  pub rest : List ℕ
+  pub formed : Formed room contents
+  pub within : length (contentsBytes contents) ≤ limit
+  pub same : xs ≡ contentsBytes contents ++ rest
+
+pub found : (room : Room) (xs : List ℕ) (h : Head) → Bytes xs → run (transaction room) xs .answer ≡ finished h → Found room xs
+found room xs h bs e =
+    let u = whole-codes room .back 0 (λ h at. accept (h at)) xs h bs (omega arith) (ap (λ (l : Layout Head). run l xs .answer) (sym (whole-transaction room)) ∙ e) in
+    record { contents = u .held; rest = u .rest; formed = u .good; within = omega (arith, u .ends); same = u .same }
