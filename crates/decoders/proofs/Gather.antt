@@ -9,8 +9,8 @@ use native.Mathlib.Omega.{arith}
 use lib.Dec.{leb, ltb, eqb, lit<}
 use lib.ListN.{length, take, drop, getD, drop-of-length-le}
 use lib.Seq.{drop-cons, take-all}
-use Rattle.layout.specs.Number.{value, little, big}
-use Rattle.encode.proofs.Number.{value-bytes}
+use Rattle.layout.specs.Number.{Order, value, little, big}
+use Rattle.encode.proofs.Number.{weighed, value-bytes}
 use borrow.Author.Tests.{lt-leb, eq-eqb, ne-eqb}
 use Rattle.layout.specs.Outcome.{Tables}
 use Rattle.layout.proofs.Reading.{by-cases}
@@ -156,10 +156,10 @@ worths-big form v h (x ∷ bs) e =
 none-yet : (value have : ℕ) → have ≡ 0 → value < 256 ^ have → value ≡ 0
 none-yet value have e h = let z : value < 256 ^ 0 = subst (λ (n : ℕ). value < 256 ^ n) e h in omega arith
 
-pub little-whole : (form v have : ℕ) (bs : List ℕ) (r : ℕ) → form ≡ 3 → have ≡ 0 → v < 256 ^ have → r ≡ value little bs → r ≡ worths form v have bs
-little-whole form v have bs r f e h q =
+pub little-whole : (form v have : ℕ) (bs : List ℕ) (r : ℕ) → (form ≡ OPAQUE → ⊥) → (form ≡ BIG → ⊥) → have ≡ 0 → v < 256 ^ have → r ≡ value little bs → r ≡ worths form v have bs
+little-whole form v have bs r f f′ e h q =
     let z : v ≡ 0 = none-yet v have e h in
-    q ∙ omega (arith, worths-little form v have bs (λ p. omega arith) (λ p. omega arith), ap (λ (n : ℕ). 256 ^ n * value little bs) e)
+    q ∙ omega (arith, worths-little form v have bs f f′, ap (λ (n : ℕ). 256 ^ n * value little bs) e)
 
 pub big-whole : (form v have : ℕ) (bs : List ℕ) (r : ℕ) → form ≡ 4 → have ≡ 0 → v < 256 ^ have → r ≡ value big bs → r ≡ worths form v have bs
 big-whole form v have bs r f e h q =
@@ -172,16 +172,18 @@ one-worths form v have (x ∷ []) b r e eb er = er ∙ ap (worth form v have) eb
 one-worths form v have [] b r e eb er = absurd (omega arith)
 one-worths form v have (x ∷ (y ∷ bs)) b r e eb er = absurd (omega arith)
 
-pub four-value : (xs : List ℕ) (a b c d : ℕ) → length xs ≡ 4 → ByteAt xs 0 a → ByteAt xs 1 b → ByteAt xs 2 c → ByteAt xs 3 d → a + b * 256 + c * 65536 + d * 16777216 ≡ value little xs
-unfolding value
-four-value (p ∷ (q ∷ (r ∷ (s ∷ [])))) a b c d e ea eb ec ed = omega arith
-four-value [] a b c d e ea eb ec ed = absurd (omega arith)
-four-value (p ∷ []) a b c d e ea eb ec ed = absurd (omega arith)
-four-value (p ∷ (q ∷ [])) a b c d e ea eb ec ed = absurd (omega arith)
-four-value (p ∷ (q ∷ (r ∷ []))) a b c d e ea eb ec ed = absurd (omega arith)
-four-value (p ∷ (q ∷ (r ∷ (s ∷ (t ∷ xs))))) a b c d e ea eb ec ed = absurd (omega arith)
+-- all bytes of a list, each with its weight
+weighed-value : (o : Order) (w : ℕ) (xs : List ℕ) → length xs ≡ w → value o xs ≡ weighed o w (λ i. getD xs i 0)
+weighed-value o w xs e = sym (ap (value o) (take-all w xs (omega arith))) ∙ value-bytes o w xs (omega arith)
 
--- eight bytes are four and four
-pub eight-value : (xs : List ℕ) (a b c d a′ b′ c′ d′ : ℕ) → length xs ≡ 8 → ByteAt xs 0 a → ByteAt xs 1 b → ByteAt xs 2 c → ByteAt xs 3 d → ByteAt xs 4 a′ → ByteAt xs 5 b′ → ByteAt xs 6 c′ → ByteAt xs 7 d′ → (a * 16777216 + b * 65536 + c * 256 + d) * 4294967296 + (a′ * 16777216 + b′ * 65536 + c′ * 256 + d′) ≡ value big xs
-eight-value xs a b c d a′ b′ c′ d′ e ea eb ec ed ea′ eb′ ec′ ed′ =
-    omega (arith, value-bytes big 8 xs (omega arith), ap (value big) (take-all 8 xs (omega arith)), ea, eb, ec, ed, ea′, eb′, ec′, ed′)
+pub two-value : (xs : List ℕ) (a b : ℕ) → length xs ≡ 2 → ByteAt xs 0 a → ByteAt xs 1 b → a + b * 256 ≡ value little xs
+two-value xs a b e ea eb = omega (arith, weighed-value little 2 xs e, ea, eb)
+
+pub four-value : (xs : List ℕ) (a b c d : ℕ) → length xs ≡ 4 → ByteAt xs 0 a → ByteAt xs 1 b → ByteAt xs 2 c → ByteAt xs 3 d → a + b * 256 + c * 65536 + d * 16777216 ≡ value little xs
+four-value xs a b c d e ea eb ec ed = omega (arith, weighed-value little 4 xs e, ea, eb, ec, ed)
+
+pub eight-value : (xs : List ℕ) (a b c d a′ b′ c′ d′ : ℕ) → length xs ≡ 8 → ByteAt xs 0 a → ByteAt xs 1 b → ByteAt xs 2 c → ByteAt xs 3 d → ByteAt xs 4 a′ → ByteAt xs 5 b′ → ByteAt xs 6 c′ → ByteAt xs 7 d′ → a + b * 256 + c * 65536 + d * 16777216 + (a′ + b′ * 256 + c′ * 65536 + d′ * 16777216) * 4294967296 ≡ value little xs
+eight-value xs a b c d a′ b′ c′ d′ e ea eb ec ed ea′ eb′ ec′ ed′ = omega (arith, weighed-value little 8 xs e, ea, eb, ec, ed, ea′, eb′, ec′, ed′)
+
+pub eight-big-value : (xs : List ℕ) (a b c d a′ b′ c′ d′ : ℕ) → length xs ≡ 8 → ByteAt xs 0 a → ByteAt xs 1 b → ByteAt xs 2 c → ByteAt xs 3 d → ByteAt xs 4 a′ → ByteAt xs 5 b′ → ByteAt xs 6 c′ → ByteAt xs 7 d′ → (a * 16777216 + b * 65536 + c * 256 + d) * 4294967296 + (a′ * 16777216 + b′ * 65536 + c′ * 256 + d′) ≡ value big xs
+eight-big-value xs a b c d a′ b′ c′ d′ e ea eb ec ed ea′ eb′ ec′ ed′ = omega (arith, weighed-value big 8 xs e, ea, eb, ec, ed, ea′, eb′, ec′, ed′)

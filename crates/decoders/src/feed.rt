@@ -75,7 +75,14 @@ pub(crate) fn byte(s: &[u8], i: usize) -> usize
     wide(s[i])
 }
 
-// A number of 4 bytes that lies whole in the piece, and an amount of 8, are loaded at once.
+// A number whose bytes stand whole in the piece is loaded at once: 2, 4 or 8 bytes little-endian, an amount's 8 big-endian.
+pub(crate) fn two(s: &[u8]) -> usize
+    requires { ⌜ length (now s) ≡ 2 ⌝ }
+    ensures { λ r. ⌜ r ≡ value little (now (s .entry)) ⌝ }
+{
+    byte(s, 0) + byte(s, 1) * 256
+}
+
 pub(crate) fn four(s: &[u8]) -> usize
     requires { ⌜ length (now s) ≡ 4 ⌝ }
     ensures { λ r. ⌜ r ≡ value little (now (s .entry)) ⌝ }
@@ -84,6 +91,15 @@ pub(crate) fn four(s: &[u8]) -> usize
 }
 
 pub(crate) fn eight(s: &[u8]) -> usize
+    requires { ⌜ length (now s) ≡ 8 ⌝ }
+    ensures { λ r. ⌜ r ≡ value little (now (s .entry)) ⌝ }
+{
+    let low = byte(s, 0) + byte(s, 1) * 256 + byte(s, 2) * 65536 + byte(s, 3) * 16777216;
+    let high = byte(s, 4) + byte(s, 5) * 256 + byte(s, 6) * 65536 + byte(s, 7) * 16777216;
+    low + high * 4294967296
+}
+
+pub(crate) fn eight_big(s: &[u8]) -> usize
     requires { ⌜ length (now s) ≡ 8 ⌝ }
     ensures { λ r. ⌜ r ≡ value big (now (s .entry)) ⌝ }
 {
@@ -104,12 +120,17 @@ pub(crate) fn worths(form: usize, value: usize, have: usize, part: &[u8]) -> usi
         return worth(form, value, have, wide(part[0]));
     }
     if have == 0 {
-        if form == 3 {
+        if form == 4 {
+            if part.len() == 8 {
+                return eight_big(part);
+            }
+        } else {
+            if part.len() == 2 {
+                return two(part);
+            }
             if part.len() == 4 {
                 return four(part);
             }
-        }
-        if form == 4 {
             if part.len() == 8 {
                 return eight(part);
             }

@@ -1,6 +1,7 @@
 // The reader on document 01's loads and on edges of its rules. Each line was worked out from document 01 (crates/layout/proofs/Loads.antt
 // has most of the loads, with their bytes laid out). Bytes that a reading never looks at are `e`.
 use decoders::Answer;
+use decoders::Fed;
 use decoders::TransactionDecoder;
 
 // Room for one record each: in one piece, byte by byte, and in uneven pieces.
@@ -23,6 +24,12 @@ fn thrice_wide(s: &[u8], step: usize) {
     trial::whole(s, step, &mut i, &mut o, &mut n);
 }
 
+fn summed(t: &[u32]) {
+    trial::text(b"  sum ");
+    trial::number(trial::wide(trial::sum(t)));
+    trial::text(b"\n");
+}
+
 // 256 input records: the answer, the last two records, and all numbers' sum.
 fn many(s: &[u8], step: usize) {
     let mut i = [0u32; 5120];
@@ -31,9 +38,7 @@ fn many(s: &[u8], step: usize) {
     let f = trial::read(s, step, &mut i, &mut o, &mut n);
     let a = f.answer;
     trial::line(a, f.taken, &i[5080..], &o, &n);
-    trial::text(b"  sum ");
-    trial::number(trial::wide(trial::sum(&i)));
-    trial::text(b"\n");
+    summed(&i);
 }
 
 // Version 2, flag 0, a count of 256 + low, and as many inputs, all 0; then no output and locktime 0.
@@ -46,6 +51,56 @@ fn inputs(low: u8) {
     many(&s, 0);
     many(&s, 1);
     many(&s, 4001);
+}
+
+// 256 output records: the answer, the last two records, and all numbers' sum.
+fn many_outputs(s: &[u8], step: usize) {
+    let mut i = [0u32; 20];
+    let mut o = [0u32; 3584];
+    let mut n = [0u32; 2];
+    let f = trial::read(s, step, &mut i, &mut o, &mut n);
+    let a = f.answer;
+    trial::line(a, f.taken, &i, &o[3556..], &n);
+    summed(&o);
+}
+
+// Version 2, flag 0, no input, a count of 256 + low, and as many outputs, all null; then locktime 0.
+fn outputs(low: u8) {
+    let mut s = [0u8; 1041];
+    s[0] = 2;
+    s[6] = 0xfd;
+    s[7] = low;
+    s[8] = 1;
+    many_outputs(&s, 0);
+    many_outputs(&s, 1);
+    many_outputs(&s, 401);
+}
+
+// 256 item records: the answer, the last two records, and all numbers' sum.
+fn many_items(s: &[u8], step: usize) {
+    let mut i = [0u32; 20];
+    let mut o = [0u32; 14];
+    let mut n = [0u32; 512];
+    let f = trial::read(s, step, &mut i, &mut o, &mut n);
+    let a = f.answer;
+    trial::line(a, f.taken, &i, &o, &n[508..]);
+    summed(&n);
+}
+
+// Version 2, flag 1, one input, no output; its script stack has 256 + low items, all empty, and its pegin stack so many. The 256 lengths start
+// at 57.
+fn items(low: u8, pegin: u8) {
+    let mut s = [0u8; 315];
+    s[0] = 2;
+    s[4] = 1;
+    s[5] = 1;
+    s[54] = 0xfd;
+    s[55] = low;
+    s[56] = 1;
+    s[313] = pegin;
+    many_items(&s, 0);
+    many_items(&s, 1);
+    many_items(&s, 101);
 }
 
 // Read at once, and strictly, with room for one record each.
@@ -232,7 +287,7 @@ struct Want {
     item_sum: u32,
 }
 
-// More wanted is 100: it is never the answer of a reading at once.
+// More wanted is 100: it is never the answer of a reading that was finished.
 fn number_of(a: Answer) -> usize {
     match a {
         Answer::Finished(_) => 0,
@@ -249,12 +304,10 @@ fn fits(t: &[u32], from: usize, sum: u32) -> bool {
     trial::all(&t[from..], 0) && trial::sum(t) == sum
 }
 
-// Reads into the tables as they are: 0 if all is as wanted, else 1.
-fn wrong(s: &[u8], w: Want, i: &mut [u32], o: &mut [u32], n: &mut [u32]) -> usize {
-    let r = TransactionDecoder::read(s, i, o, n);
-    let a = r.answer;
-    if number_of(a) == w.no
-        && r.taken == w.taken
+// 0 if all is as wanted, else 1.
+fn judged(no: usize, taken: usize, w: Want, i: &[u32], o: &[u32], n: &[u32]) -> usize {
+    if no == w.no
+        && taken == w.taken
         && fits(i, w.inputs, w.input_sum)
         && fits(o, w.outputs, w.output_sum)
         && fits(n, w.items, w.item_sum)
@@ -264,7 +317,36 @@ fn wrong(s: &[u8], w: Want, i: &mut [u32], o: &mut [u32], n: &mut [u32]) -> usiz
     1
 }
 
-fn big(i: &mut [u32], o: &mut [u32], n: &mut [u32]) -> usize {
+// Reads into the tables as they are, at once.
+fn at_once(s: &[u8], w: Want, i: &mut [u32], o: &mut [u32], n: &mut [u32]) -> usize {
+    let r = TransactionDecoder::read(s, i, o, n);
+    let a = r.answer;
+    judged(number_of(a), r.taken, w, i, o, n)
+}
+
+// A fresh start on the tables as they are; pieces of `step` bytes, `step` + 1, and so on.
+fn fed(s: &[u8], step: usize, i: &mut [u32], o: &mut [u32], n: &mut [u32]) -> Fed {
+    let f = trial::start(i, o, n);
+    trial::pour(f, s, step, 1, i, o, n)
+}
+
+// The same, and finish.
+fn in_pieces(s: &[u8], w: Want, step: usize, i: &mut [u32], o: &mut [u32], n: &mut [u32]) -> usize {
+    let f = fed(s, step, i, o, n);
+    let g = trial::finish(f, i, o, n);
+    let a = g.answer;
+    judged(number_of(a), g.taken, w, i, o, n)
+}
+
+// Step 0: at once.
+fn wrong(s: &[u8], w: Want, step: usize, i: &mut [u32], o: &mut [u32], n: &mut [u32]) -> usize {
+    if step == 0 {
+        return at_once(s, w, i, o, n);
+    }
+    in_pieces(s, w, step, i, o, n)
+}
+
+fn big(step: usize, i: &mut [u32], o: &mut [u32], n: &mut [u32]) -> usize {
     let w = Want {
         no: 0,
         taken: 907,
@@ -294,13 +376,14 @@ fn big(i: &mut [u32], o: &mut [u32], n: &mut [u32]) -> usize {
         \x01e\x00\
         \x00\x04eeee",
         w,
+        step,
         i,
         o,
         n,
     )
 }
 
-fn small(i: &mut [u32], o: &mut [u32], n: &mut [u32]) -> usize {
+fn small(step: usize, i: &mut [u32], o: &mut [u32], n: &mut [u32]) -> usize {
     let w = Want {
         no: 0,
         taken: 96,
@@ -317,13 +400,14 @@ fn small(i: &mut [u32], o: &mut [u32], n: &mut [u32]) -> usize {
         \x01\x01eeeeeeeeeeeeeeeeeeeeeeeeeeeeeeee\x01\x00\x00\x00\x00\x00\x00\x01\x90\x00\x00\
         \x00\x00\x00\x00",
         w,
+        step,
         i,
         o,
         n,
     )
 }
 
-fn refused(i: &mut [u32], o: &mut [u32], n: &mut [u32]) -> usize {
+fn refused(step: usize, i: &mut [u32], o: &mut [u32], n: &mut [u32]) -> usize {
     let w = Want {
         no: 7,
         taken: 96,
@@ -340,54 +424,58 @@ fn refused(i: &mut [u32], o: &mut [u32], n: &mut [u32]) -> usize {
         \x01\x01eeeeeeeeeeeeeeeeeeeeeeeeeeeeeeee\x01\x00\x00\x00\x00\x00\x00\x01\x90\x00\x00\
         \x00\x00\x00\x00",
         w,
+        step,
         i,
         o,
         n,
     )
 }
 
-fn first_two(i: &mut [u32], o: &mut [u32], n: &mut [u32]) -> usize {
-    let a = big(i, o, n);
-    let b = small(i, o, n);
+fn first_two(step: usize, i: &mut [u32], o: &mut [u32], n: &mut [u32]) -> usize {
+    let a = big(step, i, o, n);
+    let b = small(step, i, o, n);
     std::num::wrapping_add_usize(a, b)
 }
 
-fn second_two(i: &mut [u32], o: &mut [u32], n: &mut [u32]) -> usize {
-    let a = big(i, o, n);
-    let b = refused(i, o, n);
+fn second_two(step: usize, i: &mut [u32], o: &mut [u32], n: &mut [u32]) -> usize {
+    let a = big(step, i, o, n);
+    let b = refused(step, i, o, n);
     std::num::wrapping_add_usize(a, b)
 }
 
 // The big one, the small one, the big one, the refused one.
-fn round(i: &mut [u32], o: &mut [u32], n: &mut [u32]) -> usize {
-    let a = first_two(i, o, n);
-    let b = second_two(i, o, n);
+fn round(step: usize, i: &mut [u32], o: &mut [u32], n: &mut [u32]) -> usize {
+    let a = first_two(step, i, o, n);
+    let b = second_two(step, i, o, n);
     std::num::wrapping_add_usize(a, b)
 }
 
-// 250 rounds in the same tables, with room for 4 inputs, 5 outputs, 6 items: how many of the 1,000 went wrong.
-fn rounds(i: &mut [u32], o: &mut [u32], n: &mut [u32]) -> usize {
+// 250 rounds in the same tables, with room for 4 inputs, 5 outputs, 6 items: how many of the 1,000 went wrong. The first piece of each
+// transaction is `more` longer in each round; 0: at once.
+fn rounds(more: usize, i: &mut [u32], o: &mut [u32], n: &mut [u32]) -> usize {
     let mut bad: usize = 0;
+    let mut step: usize = more;
     let mut k: usize = 0;
     while k < 250 {
-        bad = std::num::wrapping_add_usize(bad, round(i, o, n));
+        bad = std::num::wrapping_add_usize(bad, round(step, i, o, n));
+        step = std::num::wrapping_add_usize(step, more);
         k += 1;
     }
     bad
 }
 
-fn thousand() {
+fn thousand(more: usize) {
     let mut i = [7u32; 80];
     let mut o = [7u32; 70];
     let mut n = [7u32; 12];
-    let bad = rounds(&mut i, &mut o, &mut n);
+    let bad = rounds(more, &mut i, &mut o, &mut n);
     trial::text(b"1000 transactions, wrong: ");
     trial::number(bad);
     trial::text(b"\n");
 }
 
-fn main() {
-    // 01's loads that are not marked (P): 96 bytes, 103 bytes, 6 at 47
+// 01's loads that are not marked (P): 96 bytes, 103 bytes, 6 at 47
+fn loads() {
     thrice(
         b"\x02\x00\x00\x00\x00\
         \x01eeeeeeeeeeeeeeeeeeeeeeeeeeeeeeee\x00\x00\x00\x00\x00\xfe\xff\xff\xff\
@@ -406,7 +494,9 @@ fn main() {
         b"\x02\x00\x00\x00\x00\x01eeeeeeeeeeeeeeeeeeeeeeeeeeeeeeee\x00\x00\x00\x80\x00\xfe\xff\xff\xffeeeeeeeeeeeeeeeeeeeeeeeeeeeeeeeeeeeeeeeeeeeeeeeeeeeeeeeeeeeeeeee\x00\x00",
         50,
     );
-    // every feature at once
+}
+
+fn every_feature() {
     thrice_wide(
         b"\x04\x03\x02\x01\x01\x03\
         eeeeeeeeeeeeeeeeeeeeeeeeeeeeeeee\x05\x00\x00\xc0\x03eee\xfd\xff\xff\xffeeeeeeeeeeeeeeeeeeeeeeeeeeeeeeeeeeeeeeeeeeeeeeeeeeeeeeeeeeeeeeee\x01\x00\x00\x01\x02\x03\x04\x05\x06\x08eeeeeeeeeeeeeeeeeeeeeeeeeeeeeeee\
@@ -427,12 +517,25 @@ fn main() {
         \x00\x04eeee",
         400,
     );
+}
+
+fn main() {
+    loads();
+    every_feature();
     // 256 inputs in 256 records, and 257
     inputs(0);
     inputs(1);
+    // the same of outputs; of items, and a pegin item behind 256
+    outputs(0);
+    outputs(1);
+    items(0, 0);
+    items(1, 0);
+    items(0, 1);
     refusals_1_to_4();
     refusals_5_to_7();
     refusals_8_and_9();
     sizes();
-    thousand();
+    // at once, and in pieces
+    thousand(0);
+    thousand(1);
 }

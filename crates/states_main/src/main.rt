@@ -1,5 +1,6 @@
-// A reading's state between calls: what has ended stays so, tables of another size (10) and forged states (11) change nothing. Before each
-// call every number of the tables it is handed is marked: "untouched" says that all marks are still there.
+// A reading's state and tables between calls: what has ended stays so; empty pieces, tables of another size (10) and forged states (11) change
+// nothing. Before each call every number of the tables it is handed is marked: "untouched" says that all marks are still there. Only the
+// tables in mid-reading stay as they are from call to call.
 use decoders::TransactionDecoder;
 
 // Marks the tables, feeds a piece.
@@ -204,8 +205,107 @@ fn out_of_range_ended() {
     end(b);
 }
 
+// A reading with its tables, as they are between calls.
+struct View {
+    decoder: TransactionDecoder,
+    inputs: [u32; 20],
+    outputs: [u32; 14],
+    items: [u32; 2],
+}
+
+// A fresh start on tables that held something else.
+fn viewed() -> View {
+    let mut i = [7u32; 20];
+    let mut o = [7u32; 14];
+    let mut n = [7u32; 2];
+    let d = TransactionDecoder::new(&mut i, &mut o, &mut n);
+    View {
+        decoder: d,
+        inputs: i,
+        outputs: o,
+        items: n,
+    }
+}
+
+fn next(v: View, piece: &[u8]) -> View {
+    let d = v.decoder;
+    let mut i = v.inputs;
+    let mut o = v.outputs;
+    let mut n = v.items;
+    let f = d.push_bytes(piece, &mut i, &mut o, &mut n);
+    let a = f.answer;
+    trial::line(a, f.taken, &i, &o, &n);
+    let e = f.decoder;
+    View {
+        decoder: e,
+        inputs: i,
+        outputs: o,
+        items: n,
+    }
+}
+
+// 01's load of 103 bytes, and its tables at many cuts: a number stands there from its field's last byte on. After 37 bytes, within the txid;
+// 38, the txid; 42, the vout; 43, the script; 46, within the sequence; 47, the sequence.
+fn input_shown() -> View {
+    let a = next(
+        viewed(),
+        b"\x02\x00\x00\x00\x01\x01eeeeeeeeeeeeeeeeeeeeeeeeeeeeeee",
+    );
+    let b = next(next(a, b"e"), b"\x00\x00\x00\x00");
+    let c = next(next(b, b"\x00"), b"\xfe\xff\xff");
+    next(c, b"\xff")
+}
+
+// 48, the output count; 49, the asset's prefix; 81, its part; 82, the value's prefix; 89, within the amount; 90, the amount; 91, the nonce's
+// prefix; 92, the script.
+fn output_shown(v: View) -> View {
+    let a = next(next(v, b"\x01"), b"\x01");
+    let b = next(next(a, b"eeeeeeeeeeeeeeeeeeeeeeeeeeeeeeee"), b"\x01");
+    let c = next(next(b, b"\x00\x00\x00\x00\x00\x00\x01"), b"\x90");
+    next(next(c, b"\x00"), b"\x00")
+}
+
+// 96, the locktime; 97 and 98, the input's proofs; 99, the script count; 100, the item; 101, the pegin count; 102 and 103, the output's proofs.
+fn witness_shown(v: View) {
+    let a = next(next(v, b"\x00\x00\x00\x00"), b"\x00");
+    let b = next(next(a, b"\x00"), b"\x01");
+    let c = next(next(b, b"\x00"), b"\x00");
+    next(next(c, b"\x00"), b"\x00");
+}
+
+// A piece, and an empty one behind it.
+fn idle(d: TransactionDecoder, piece: &[u8]) -> TransactionDecoder {
+    push(push(d, piece), b"")
+}
+
+// Empty pieces in a txid, a vout, a length's further bytes, a body, a sequence, an amount, a locktime, an item, behind the end; then in a
+// count's further bytes. What a piece enters shows among the marks.
+fn empty_pieces() {
+    let a = idle(fresh(), b"\x02\x00\x00\x00\x01\x01eeee");
+    let b = idle(a, b"eeeeeeeeeeeeeeeeeeeeeeeeeeee\x01\x00");
+    let c = idle(b, b"\x00\x40\xfd");
+    let d = idle(
+        c,
+        b"\xfd\x00eeeeeeeeeeeeeeeeeeeeeeeeeeeeeeeeeeeeeeeeeeeeeeeeeeeeeeeeeeeeeeeeeeeeeeeeeeeeeeeeeeeeeeeeeeeeeeeeeeee",
+    );
+    let e = idle(
+        d,
+        b"eeeeeeeeeeeeeeeeeeeeeeeeeeeeeeeeeeeeeeeeeeeeeeeeeeeeeeeeeeeeeeeeeeeeeeeeeeeeeeeeeeeeeeeeeeeeeeeeeeeeeeeeeeeeeeeeeeeeeeeeeeeeeeeeeeeeeeeeeeeeeeeeeeeeeeeee\xfe\xff",
+    );
+    let f = idle(
+        e,
+        b"\xff\xff\x01\x01eeeeeeeeeeeeeeeeeeeeeeeeeeeeeeee\x01\x00\x00\x00\x00",
+    );
+    let g = idle(f, b"\x00\x00\x01\x90\x00\x00\x00\x00");
+    let h = idle(g, b"\x00\x00\x00\x00\x01\x03e");
+    idle(h, b"ee\x00\x00\x00");
+    push(idle(fresh(), b"\x02\x00\x00\x00\x00\xfd\x01"), b"\x01");
+}
+
 fn main() {
     ended();
+    witness_shown(output_shown(input_shown()));
+    empty_pieces();
     sizes();
     sizes_later();
     forged();

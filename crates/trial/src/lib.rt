@@ -118,15 +118,20 @@ pub fn line(a: Answer, taken: usize, inputs: &[u32], outputs: &[u32], items: &[u
     row(b"  items", items);
 }
 
-// A fresh start on marked tables.
-pub fn begin(inputs: &mut [u32], outputs: &mut [u32], items: &mut [u32]) -> Fed {
-    mark(inputs, outputs, items);
+// A fresh start on the tables as they are.
+pub fn start(inputs: &mut [u32], outputs: &mut [u32], items: &mut [u32]) -> Fed {
     let d = TransactionDecoder::new(inputs, outputs, items);
     Fed {
         decoder: d,
         taken: 0,
         answer: Answer::More,
     }
+}
+
+// A fresh start on marked tables.
+pub fn begin(inputs: &mut [u32], outputs: &mut [u32], items: &mut [u32]) -> Fed {
+    mark(inputs, outputs, items);
+    start(inputs, outputs, items)
 }
 
 // A piece more; the bytes taken add up.
@@ -174,21 +179,24 @@ fn stop(at: usize, step: usize, length: usize) -> usize
     length
 }
 
-// Bytes in pieces of `step`.
+// Bytes in pieces: the first of `step`, and each `more` longer than the one before it.
 pub fn pour(
     f: Fed,
     s: &[u8],
     step: usize,
+    more: usize,
     inputs: &mut [u32],
     outputs: &mut [u32],
     items: &mut [u32],
 ) -> Fed {
     let mut g = f;
     let mut at = 0;
+    let mut size = step;
     while at < s.len() {
-        let e = stop(at, step, s.len());
+        let e = stop(at, size, s.len());
         g = feed(g, &s[at..e], inputs, outputs, items);
         at = e;
+        size = std::num::wrapping_add_usize(size, more);
     }
     g
 }
@@ -222,7 +230,7 @@ fn poured(
     items: &mut [u32],
 ) -> Fed {
     let f = begin(inputs, outputs, items);
-    pour(f, s, step, inputs, outputs, items)
+    pour(f, s, step, 0, inputs, outputs, items)
 }
 
 // Fresh start, pieces, finish.
@@ -267,7 +275,7 @@ fn tailed(
     items: &mut [u32],
 ) -> Fed {
     let f = flooded(head, buffer, count, inputs, outputs, items);
-    pour(f, tail, 0, inputs, outputs, items)
+    pour(f, tail, 0, 0, inputs, outputs, items)
 }
 
 pub fn long(

@@ -6,10 +6,10 @@ use Rattle.decoders_main.proofs.rounds.Statement.{statement}
 use Rattle.decoders_main.proofs.rounds.Tie as tie
 
 abbrev Inv-loop : tie.InvT-loop
-Inv-loop i₀ o₀ n₀ bad₀ k₀ i o n bad k = (k ≤ 250) × ((length i ≡ length i₀) × ((length o ≡ length o₀) × (length n ≡ length n₀)))
+Inv-loop more i₀ o₀ n₀ bad₀ step₀ k₀ i o n bad step k = (k ≤ 250) × ((length i ≡ length i₀) × ((length o ≡ length o₀) × (length n ≡ length n₀)))
 
 abbrev μ-loop : tie.MeasureT-loop
-μ-loop i₀ o₀ n₀ bad₀ k₀ i o n bad k = 250 - k
+μ-loop more i₀ o₀ n₀ bad₀ step₀ k₀ i o n bad step k = 250 - k
 
 loop-holds : tie.Need-loop-holds Inv-loop μ-loop
 loop-holds c = search needs
@@ -19,6 +19,9 @@ round-requires c κs = search needs
 
 wrapping-add-usize-requires : tie.Need-wrapping-add-usize-requires Inv-loop μ-loop
 wrapping-add-usize-requires c κs = search needs
+
+wrapping-add-usize-requires-2 : tie.Need-wrapping-add-usize-requires-2 Inv-loop μ-loop
+wrapping-add-usize-requires-2 c κs = search needs
 
 add-k : tie.Need-add-k Inv-loop μ-loop
 add-k c = search needs
@@ -50,6 +53,7 @@ rounds-spec =
     loop-holds
     round-requires
     wrapping-add-usize-requires
+    wrapping-add-usize-requires-2
     add-k
     loop-less
     loop-again

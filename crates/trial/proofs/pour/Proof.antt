@@ -6,10 +6,10 @@ use Rattle.trial.proofs.pour.Statement.{statement}
 use Rattle.trial.proofs.pour.Tie as tie
 
 abbrev Inv-loop : tie.InvT-loop
-Inv-loop s step inputs₀ outputs₀ items₀ g₀ at₀ inputs outputs items g at = (at ≤ length s) × ((length inputs ≡ length inputs₀) × ((length outputs ≡ length outputs₀) × (length items ≡ length items₀)))
+Inv-loop s step more inputs₀ outputs₀ items₀ g₀ at₀ size₀ inputs outputs items g at size = (at ≤ length s) × ((length inputs ≡ length inputs₀) × ((length outputs ≡ length outputs₀) × (length items ≡ length items₀)))
 
 abbrev μ-loop : tie.MeasureT-loop
-μ-loop s step inputs₀ outputs₀ items₀ g₀ at₀ inputs outputs items g at = length s - at
+μ-loop s step more inputs₀ outputs₀ items₀ g₀ at₀ size₀ inputs outputs items g at size = length s - at
 
 loop-holds : tie.Need-loop-holds Inv-loop μ-loop
 loop-holds c = search needs
@@ -28,6 +28,9 @@ part-feed-end c = search needs
 
 feed-requires : tie.Need-feed-requires Inv-loop μ-loop
 feed-requires c κs = search needs
+
+wrapping-add-usize-requires : tie.Need-wrapping-add-usize-requires Inv-loop μ-loop
+wrapping-add-usize-requires c κs = search needs
 
 loop-less : tie.Need-loop-less Inv-loop μ-loop
 loop-less c = search needs
@@ -59,6 +62,7 @@ pour-spec =
     part-feed-start
     part-feed-end
     feed-requires
+    wrapping-add-usize-requires
     loop-less
     loop-again
     same-length

@@ -20,23 +20,43 @@ worth-requires c κs = let h = c .before .before .before .before .before .pre .n
 returns-2 : tie.Need-returns-2
 returns-2 c = one-worths (c .before .before .before .before .before .before .args .form) (c .before .before .before .before .before .before .args .value) (c .before .before .before .before .before .before .args .have) (c .before .before .before .before .before .before .args .part .now) (c .before .wide .result) (c .worth .result) (c .before .before .before .if2 .taken) (c .before .wide .ensures) (c .worth .ensures)
 
+eight-big-requires : tie.Need-eight-big-requires
+eight-big-requires c κs = search needs
+
+returns-3 : tie.Need-returns-3
+returns-3 c =
+    let start = c .before .before .before .before .before .before .before in
+    big-whole (start .args .form) (start .args .value) (start .args .have) (start .args .part .now) (c .eight-big .result) (c .before .before .if4 .taken) (c .before .before .before .if3 .taken) (start .pre .below) (c .eight-big .ensures)
+
+two-requires : tie.Need-two-requires
+two-requires c κs = search needs
+
+returns-4 : tie.Need-returns-4
+returns-4 c =
+    let start = c .before .before .before .before .before .before .before in
+    little-whole (start .args .form) (start .args .value) (start .args .have) (start .args .part .now) (c .two .result) (c .before .before .before .before .before .if1 .left) (c .before .before .if4 .left) (c .before .before .before .if3 .taken) (start .pre .below) (c .two .ensures)
+
 four-requires : tie.Need-four-requires
 four-requires c κs = search needs
 
-returns-3 : tie.Need-returns-3
-returns-3 c = little-whole (c .before .before .before .before .before .before .before .args .form) (c .before .before .before .before .before .before .before .args .value) (c .before .before .before .before .before .before .before .args .have) (c .before .before .before .before .before .before .before .args .part .now) (c .four .result) (c .before .before .if4 .taken) (c .before .before .before .if3 .taken) (c .before .before .before .before .before .before .before .pre .below) (c .four .ensures)
+returns-5 : tie.Need-returns-5
+returns-5 c =
+    let start = c .before .before .before .before .before .before .before .before in
+    little-whole (start .args .form) (start .args .value) (start .args .have) (start .args .part .now) (c .four .result) (c .before .before .before .before .before .before .if1 .left) (c .before .before .before .if4 .left) (c .before .before .before .before .if3 .taken) (start .pre .below) (c .four .ensures)
 
 eight-requires : tie.Need-eight-requires
 eight-requires c κs = search needs
 
-returns-4 : tie.Need-returns-4
-returns-4 c = big-whole (c .before .before .before .before .before .before .before .before .args .form) (c .before .before .before .before .before .before .before .before .args .value) (c .before .before .before .before .before .before .before .before .args .have) (c .before .before .before .before .before .before .before .before .args .part .now) (c .eight .result) (c .before .before .if6 .taken) (c .before .before .before .before .if3 .taken) (c .before .before .before .before .before .before .before .before .pre .below) (c .eight .ensures)
+returns-6 : tie.Need-returns-6
+returns-6 c =
+    let start = c .before .before .before .before .before .before .before .before .before in
+    little-whole (start .args .form) (start .args .value) (start .args .have) (start .args .part .now) (c .eight .result) (c .before .before .before .before .before .before .before .if1 .left) (c .before .before .before .before .if4 .left) (c .before .before .before .before .before .if3 .taken) (start .pre .below) (c .eight .ensures)
 
 worths-slow-requires : tie.Need-worths-slow-requires
 worths-slow-requires c κs = search needs
 
-returns-5 : tie.Need-returns-5
-returns-5 c = search needs
+returns-7 : tie.Need-returns-7
+returns-7 c = search needs
 
 pub worths-spec : {M : Type 1} → statement M
 worths-spec =
@@ -47,9 +67,13 @@ worths-spec =
     wide-requires
     worth-requires
     returns-2
-    four-requires
+    eight-big-requires
     returns-3
-    eight-requires
+    two-requires
     returns-4
+    four-requires
+    returns-5
+    eight-requires
+    returns-6
     worths-slow-requires
-    returns-5)
+    returns-7)
