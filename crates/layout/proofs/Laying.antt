@@ -217,7 +217,7 @@ issuance-long : (at : ℕ) (o : Option Issuance) → length (issuanceColumns at 
 issuance-long at none = refl
 issuance-long at (some x) = refl
 
-input-long : (at : ℕ) (x : Input) → length (inputColumns at x) ≡ 13
+pub input-long : (at : ℕ) (x : Input) → length (inputColumns at x) ≡ 13
 input-long at x = ap (λ (n : ℕ). suc (suc (suc (suc (suc (suc n)))))) (issuance-long (at + 36 + length (bodyBytes (x .script)) + 4) (x .issuance))
 
 -- ---- outputs
@@ -491,7 +491,7 @@ bare-beside b [] n e = refl
 bare-beside b (r ∷ rows) zero e = absurd (omega arith)
 bare-beside b (r ∷ rows) (suc n) e = ap (λ (l : List ℕ). (r ++ blanks b) ++ l) (bare-beside b rows n (omega arith))
 
-placed-length : {X : Type 0} (bytes : X → List ℕ) (columns : ℕ → X → List ℕ) (at : ℕ) (xs : List X) → length (placed bytes columns at xs) ≡ length xs
+pub placed-length : {X : Type 0} (bytes : X → List ℕ) (columns : ℕ → X → List ℕ) (at : ℕ) (xs : List X) → length (placed bytes columns at xs) ≡ length xs
 unfolding placed
 placed-length bytes columns at [] = refl
 placed-length bytes columns at (x ∷ xs) = ap suc (placed-length bytes columns (at + length (bytes x)) xs)
@@ -588,7 +588,7 @@ beside-length [] news e = refl
 beside-length (r ∷ rows) [] e = absurd (omega arith)
 beside-length (r ∷ rows) (n ∷ news) e = ap suc (beside-length rows news (omega arith))
 
-placed-wide : {X : Type 0} (bytes : X → List ℕ) (columns : ℕ → X → List ℕ) (w : ℕ) → ((at : ℕ) (x : X) → length (columns at x) ≡ w) → (at : ℕ) (xs : List X) → Wide w (placed bytes columns at xs)
+pub placed-wide : {X : Type 0} (bytes : X → List ℕ) (columns : ℕ → X → List ℕ) (w : ℕ) → ((at : ℕ) (x : X) → length (columns at x) ≡ w) → (at : ℕ) (xs : List X) → Wide w (placed bytes columns at xs)
 unfolding placed
 placed-wide bytes columns w long at [] = tt
 placed-wide bytes columns w long at (x ∷ xs) = (long at x, placed-wide bytes columns w long (at + length (bytes x)) xs)
@@ -611,7 +611,7 @@ pub input-witness-wide : (at n : ℕ) (o : Option Witnesses) → Wide 7 (inputWi
 input-witness-wide at n none = blanks-wide 7 n
 input-witness-wide at n (some w) = witnesses-wide 0 at (w .inputs)
 
-input-witness-length : (at n m : ℕ) (o : Option Witnesses) → MaybeAllowed n m o → length (inputWitnessRecords at n o) ≡ n
+pub input-witness-length : (at n m : ℕ) (o : Option Witnesses) → MaybeAllowed n m o → length (inputWitnessRecords at n o) ≡ n
 input-witness-length at n m none g = length-replicate n (blanks 7)
 input-witness-length at n m (some w) g = witnesses-length 0 at (w .inputs) ∙ g .inputs
 
@@ -619,7 +619,7 @@ pub output-witness-wide : (at n : ℕ) (o : Option Witnesses) → Wide 4 (output
 output-witness-wide at n none = blanks-wide 4 n
 output-witness-wide at n (some w) = placed-wide outputWitnessBytes outputWitnessColumns 4 (λ at x. refl) (at + length (flat inputWitnessBytes (w .inputs))) (w .outputs)
 
-output-witness-length : (at n m : ℕ) (o : Option Witnesses) → MaybeAllowed m n o → length (outputWitnessRecords at n o) ≡ n
+pub output-witness-length : (at n m : ℕ) (o : Option Witnesses) → MaybeAllowed m n o → length (outputWitnessRecords at n o) ≡ n
 output-witness-length at n m none g = length-replicate n (blanks 4)
 output-witness-length at n m (some w) g = placed-length outputWitnessBytes outputWitnessColumns (at + length (flat inputWitnessBytes (w .inputs))) (w .outputs) ∙ g .outputs
 

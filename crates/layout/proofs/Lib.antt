@@ -5,6 +5,7 @@ pub mod Outpoint
 pub mod Parts
 pub mod Whole
 pub mod Laying
+pub mod Showing
 pub mod Sound
 pub mod Theorems
 pub mod Loads

@@ -208,13 +208,13 @@ prefix-codes : (note : ℕ → ℕ → Entry) → Codes (λ at k. numberAt at li
 prefix-codes note = noting (λ at p. note p at) first-codes
 
 -- what is listed is none of what isn't
-listed-other : (listed : ℕ → Bool) (p n : ℕ) → listed p ≡ true → listed n ≡ false → eqb p n ≡ false
+pub listed-other : (listed : ℕ → Bool) (p n : ℕ) → listed p ≡ true → listed n ≡ false → eqb p n ≡ false
 listed-other listed p n e no-n =
     by-cases (eqb p n)
     (λ t. absurd (true-not-false (sym e ∙ ap listed (eqb-true p n t) ∙ no-n)))
     (λ f. f)
 
-abbrev commitmentPrefix : ℕ → Bool
+abbrev pub commitmentPrefix : ℕ → Bool
 commitmentPrefix p = eqb p 8 || eqb p 9
 
 -- what stands behind a value's prefix
