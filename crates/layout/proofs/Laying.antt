@@ -567,7 +567,7 @@ module _ (room : Room) (x : Contents) where
 abbrev pub Wide : ℕ → List (List ℕ) → Type 0
 Wide w rows = Every (λ r. length r ≡ w) rows
 
-flat-wide : (w : ℕ) (rows : List (List ℕ)) → Wide w rows → length (flat (λ r. r) rows) ≡ w * length rows
+pub flat-wide : (w : ℕ) (rows : List (List ℕ)) → Wide w rows → length (flat (λ r. r) rows) ≡ w * length rows
 unfolding flat
 flat-wide w [] g = omega arith
 flat-wide w (r ∷ rows) g = omega (arith, length-append r (flat (λ r. r) rows), flat-wide w rows (g .1), g .0, ap (λ (n : ℕ). w * n) (sym (add-one (length rows))), mul-add w (length rows) 1)

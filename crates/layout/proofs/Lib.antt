@@ -6,6 +6,7 @@ pub mod Parts
 pub mod Whole
 pub mod Laying
 pub mod Showing
+pub mod Judging
 pub mod Sound
 pub mod Theorems
 pub mod Loads

@@ -399,7 +399,7 @@ module _ (hid : Hidden) (listed : ℕ → Bool) (l : Listing listed) where
 
 -- ---- issuance and input
 
-null-prefix : (v : Value) → ValueAllowed v → eqb (valuePrefix v) 0 ≡ isNull v
+pub null-prefix : (v : Value) → ValueAllowed v → eqb (valuePrefix v) 0 ≡ isNull v
 null-prefix null g = refl
 null-prefix (explicit v) g = refl
 null-prefix (commitment p part) g = listed-other commitmentPrefix p 0 (g .0) refl

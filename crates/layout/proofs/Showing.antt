@@ -354,13 +354,13 @@ module _ (source : List ℕ) (x : Contents) where
     pub witnesses : MaybeAllowed (length (x .inputs)) (length (x .outputs)) (x .witnesses)
 
   module _ (g : Parts) (s : Standing) (z : Sizes) where
-    input-records : records 20 (length (x .inputs)) (tablesOf z x .inputs) ≡ inputRows x
+    pub input-records : records 20 (length (x .inputs)) (tablesOf z x .inputs) ≡ inputRows x
     input-records = records-rows 20 (inputRows x) (length (x .inputs)) _ (input-rows-wide x (g .witnesses)) (input-rows-length x (g .witnesses))
 
-    output-records : records 14 (length (x .outputs)) (tablesOf z x .outputs) ≡ outputRows x
+    pub output-records : records 14 (length (x .outputs)) (tablesOf z x .outputs) ≡ outputRows x
     output-records = records-rows 14 (outputRows x) (length (x .outputs)) _ (output-rows-wide x (g .witnesses)) (output-rows-length x (g .witnesses))
 
-    item-records : records 2 (itemCount (x .witnesses)) (tablesOf z x .items) ≡ itemRows x
+    pub item-records : records 2 (itemCount (x .witnesses)) (tablesOf z x .items) ≡ itemRows x
     item-records = records-rows 2 (itemRows x) (itemCount (x .witnesses)) _ (all-items-wide (witnessesAt x) (x .witnesses)) (all-items-length (witnessesAt x) (x .witnesses))
 
     abbrev firstInputs : List (List ℕ)
