@@ -7,6 +7,8 @@ pub mod Whole
 pub mod Laying
 pub mod Showing
 pub mod Judging
+pub mod Accepted
+pub mod RoundTrips
 pub mod Sound
 pub mod Theorems
 pub mod Loads

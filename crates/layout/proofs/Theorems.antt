@@ -182,12 +182,12 @@ zero-behind z xs bytes h e =
         (readingOf z xs .log) (entries-fair z xs bytes) (inside z xs bytes h e)
 
 -- the same of reading at once and of the strict form: where they finish, so did the reading
-finish-finished : (a : Answer Head) (n : ℕ) (h : Head) → finish a n ≡ finished h → a ≡ finished h
+pub finish-finished : (a : Answer Head) (n : ℕ) (h : Head) → finish a n ≡ finished h → a ≡ finished h
 finish-finished (finished g) n h e = e
 finish-finished more n h e = absurd (refused-not-finished e)
 finish-finished (refused m p) n h e = e
 
-follow-finished : (a : Answer Head) (n there : ℕ) (h : Head) → follow a n there ≡ finished h → a ≡ finished h
+pub follow-finished : (a : Answer Head) (n there : ℕ) (h : Head) → follow a n there ≡ finished h → a ≡ finished h
 follow-finished (finished g) n there h e = by-cases (ltb n there) (λ t. absurd (refused-not-finished (rw t at e))) (λ t. rw t at e)
 follow-finished more n there h e = e
 follow-finished (refused m p) n there h e = e
