@@ -396,7 +396,7 @@ module _ (source : List ℕ) (bs : Bytes source) where
         }
 
     -- with flag 0 no record has items
-    no-items : (first : ℕ) (rs : List (List ℕ)) → InputsPass 0 first rs → sum recordItems rs ≡ 0
+    pub no-items : (first : ℕ) (rs : List (List ℕ)) → InputsPass 0 first rs → sum recordItems rs ≡ 0
     unfolding sum inputWitnessRule zeros₇
     no-items first [] q = refl
     no-items first (r ∷ rs) q =

@@ -8,6 +8,7 @@ pub mod Laying
 pub mod Showing
 pub mod Judging
 pub mod Accepted
+pub mod Columns
 pub mod RoundTrips
 pub mod Sound
 pub mod Theorems

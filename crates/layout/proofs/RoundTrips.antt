@@ -6,6 +6,7 @@
 --     never-refused            a finished reading's tables are refused by the writer for nothing but 14
 --     read-then-write          written back over the same bytes they give the same bytes
 --     write-then-read          what the writer accepts reads back as the same transaction
+--     records-agree            record for record, the numbers agree in all but positions
 --     length-is                the length asked for alone is that of the written bytes
 --     refused-write-untouched  a refused write leaves the output as it was; written-tail: a success keeps what stands behind
 use Prim.Native.Nat.{ℕ, zero, suc, _+_, _-_, _*_, _/_, _%_, _^_, _<_, _≤_, min}
@@ -17,7 +18,7 @@ use mathlib.Core.Logic.{_↔_}
 use native.Mathlib.Nat.{add-assoc, add-zero, zero-add}
 use native.Mathlib.Omega.{arith}
 use lib.Dec.{leb, eqb, ltb}
-use lib.ListN.{length, take, drop, getD, length-append, length-drop}
+use lib.ListN.{length, take, drop, getD, length-append, length-drop, length-map}
 use lib.Seq.{take-at, drop-at}
 use borrow.Author.Tests.{leb-true, leb-false, le-leb, lt-leb, ltb-true, ltb-false, le-ltb}
 use Rattle.layout.specs.Number.{Bytes}
@@ -25,13 +26,14 @@ use Rattle.layout.specs.Layout.{Answer, finished, more, refused, Reading
 use Rattle.layout.specs.Transaction.{Head, Room, limit, transaction}
 use Rattle.layout.specs.Outcome.{Tables, Sizes, Outcome, roomOf, zeros, laid, outcome, readingOf, partial, finish, ended, follow, strictly, strict}
 use Rattle.layout.specs.Contents.{Contents, contentsBytes, flagOf, Allowed}
-use Rattle.layout.specs.Records.{itemCount, headOf, Fits, tablesOf}
-use Rattle.layout.specs.Writing.{contentsOf, Fault, passes, fault, _also_, unless, tableFaults, writtenBytes, faults, Verdict, wrote, unwritten, verdict, over, touched, Written, writtenLength, writing}
+use Rattle.layout.specs.Records.{itemCount, headOf, Fits, tablesOf, inputsAt, outputsAt, witnessesAt}
+use Rattle.layout.specs.Writing.{records, inputOf, outputOf, inputRecords, outputRecords, itemRecords, _!_, contentsOf, Fault, passes, fault, _also_, unless, tableFaults, writtenBytes, faults, Verdict, wrote, unwritten, verdict, over, touched, Written, writtenLength, writing}
 use Rattle.layout.proofs.Reading.{by-cases, refused-not-finished}
 use Rattle.layout.proofs.Theorems.{finish-finished, follow-finished}
 use Rattle.layout.proofs.Whole.{Formed, wholeLog, reads, Found, found}
-use Rattle.layout.proofs.Laying.{laid-whole}
-use Rattle.layout.proofs.Showing.{Stands, Standing, standing, Parts, contents-back}
+use Rattle.layout.proofs.Laying.{laid-whole, inputRows, outputRows, itemRows}
+use Rattle.layout.proofs.Columns.{InputAgrees, OutputAgrees, Each₂, RecordsAgree, rows-agree}
+use Rattle.layout.proofs.Showing.{Stands, Standing, standing, Parts, contents-back, input-records, output-records, item-records}
 use Rattle.layout.proofs.Judging.{also-split, unless-true, own-passes}
 use Rattle.layout.proofs.Accepted.{Words, Passed, passed, Tells, tells, parts-allowed}
 
@@ -267,6 +269,24 @@ module _ (h : Head) (t : Tables) (source : List ℕ) (lent : Lent h t source) (o
         taken = ap (λ (r : Outcome). r .taken) o;
         tables = ap (λ (r : Outcome). r .tables) o;
         transaction = ap₂ (λ (g : Head) (ts : Tables). contentsOf g ts (bytes ++ rest)) (sym head-same) (ap (λ (r : Outcome). r .tables) o) ∙ shows z (bytes ++ rest) held b;
+      }
+
+  -- And record for record, the numbers agree in all but positions.
+  pub records-agree : (z : Sizes) → Holds z h → (rest : List ℕ) → RecordsAgree h t (partial z (bytes ++ rest) .tables)
+  unfolding contentsOf
+  records-agree z room rest =
+      let b = begun z room rest in
+      let g = parts z (bytes ++ rest) held b in
+      let s = stand z (bytes ++ rest) held b in
+      let tables = ap (λ (r : Outcome). r .tables) (accepted z (bytes ++ rest) held b) in
+      let rows : inputRecords h (partial z (bytes ++ rest) .tables) ≡ inputRows held = (λ j. records 20 (told .inputs j) (tables j .inputs)) ∙ input-records (bytes ++ rest) held g s z in
+      let rows′ : outputRecords h (partial z (bytes ++ rest) .tables) ≡ outputRows held = (λ j. records 14 (told .outputs j) (tables j .outputs)) ∙ output-records (bytes ++ rest) held g s z in
+      let rows″ : itemRecords h (partial z (bytes ++ rest) .tables) ≡ itemRows held = (λ j. records 2 (told .items j) (tables j .items)) ∙ item-records (bytes ++ rest) held g s z in
+      let a = rows-agree source (lent .source-bytes) h t all-passed (lent .inputs) (lent .outputs) (inputsAt held) (outputsAt held) (witnessesAt held) (length (held .inputs)) (length (held .outputs)) (length-map (inputRecords h t) (inputOf source)) (length-map (outputRecords h t) (outputOf source)) in
+      record {
+        inputs = subst (λ (l : List (List ℕ)). Each₂ InputAgrees (inputRecords h t) l) (sym rows) (a .0);
+        outputs = subst (λ (l : List (List ℕ)). Each₂ OutputAgrees (outputRecords h t) l) (sym rows′) (a .1);
+        items = subst (λ (l : List (List ℕ)). Each₂ (λ r s. r ! 1 ≡ s ! 1) (itemRecords h t) l) (sym rows″) (a .2);
       }
 
 -- ---- the answer, the length and the output
