@@ -297,7 +297,7 @@ pub record LengthIs (h : Head) (t : Tables) (source : List ℕ) (n : ℕ) : Type
   pub held-by : (out : List ℕ) → n ≤ length out → writing h t source out ≡ record { answer = wrote n; output = over (writtenBytes h t source) out }
   pub too-short : (out : List ℕ) → length out < n → writing h t source out ≡ record { answer = unwritten 14 0; output = out }
 
-passes-of : (f : Fault) (n m : ℕ) → verdict f n ≡ wrote m → (f ≡ passes) × (n ≡ m)
+pub passes-of : (f : Fault) (n m : ℕ) → verdict f n ≡ wrote m → (f ≡ passes) × (n ≡ m)
 passes-of passes n m e = (refl, ap (λ (v : Verdict). elim v [ wrote k ↦ k | unwritten a b ↦ 0 ]) e)
 passes-of (fault a b) n m e = absurd (let z : _≡_ {A = ℕ} 0 1 = ap (λ (v : Verdict). elim v [ wrote k ↦ 1 | unwritten a b ↦ 0 ]) e in omega arith)
 

@@ -1,0 +1,34 @@
+-- 01's answers of writing, as the code has them.
+use Prim.Native.Nat.{ℕ}
+use mathlib.Core.List.{List}
+use Rattle.layout.specs.Transaction as transaction
+use Rattle.layout.specs.Writing as writing
+use Rattle.layout.specs.Writing.{Verdict, wrote, unwritten}
+use Rattle.decoders.specs.declared.Head.{Head}
+use Rattle.encoders.specs.declared.Written.{Written}
+use Rattle.encoders.specs.declared.Written.the-variants.{Done, Refused}
+
+-- layout's verdictNumber, verdictPlace and verdictLength give 01's number, place and length
+abbrev pub told : Verdict → Written
+told (wrote n) = Done n
+told (unwritten number place) = Refused number place
+
+-- head numbers as the layout has them
+abbrev pub headNumbers : Head → transaction.Head
+headNumbers h =
+    record { version = h .version; flag = h .flag; inputs = h .inputs; outputs = h .outputs; items = h .items; locktime = h .locktime; bytes = h .bytes }
+
+-- a fault, or the number that judging hands on
+abbrev pub answer : writing.Fault → ℕ → Written
+answer f n = told (writing.verdict f n)
+
+-- What writing leaves: its answer, and the output.
+pub record Out : Type 0 where
+  pub answer : Written
+  pub output : List ℕ
+
+abbrev pub outOf : Written → List ℕ → Out
+outOf w out = record { answer = w; output = out }
+
+abbrev pub toldOut : writing.Written → Out
+toldOut v = outOf (told (v .answer)) (v .output)
