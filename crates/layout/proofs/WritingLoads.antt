@@ -1,14 +1,18 @@
--- Writing, computed: what 01 says of loads.
+-- Writing, computed. Every number told on a right side was worked out from document 01.
+--     everything-back, load-96-back   accepted loads written back, with the output's tail
+--     refusals                        each number that writing gives, by each of its causes, and what is judged first
+--     fees                            the fee question
+--     not-read                        what the writer does not read: positions of null fields, records behind the counts, the head's length
 use Prim.Native.Nat.{ℕ}
 use mathlib.Core.Path.{_≡_, refl}
 use mathlib.Core.Bool.{true, false}
-use mathlib.Core.List.{List, [], _∷_, _++_}
-use lib.ListN.{length, replicate}
+use mathlib.Core.List.{List, [], _∷_, _++_, map}
+use lib.ListN.{length, replicate, set}
 use Rattle.layout.specs.Number.{bytesOf}
 use Rattle.layout.specs.Outcome.{partial}
 use Rattle.layout.specs.Contents.{Contents, compactBytes, flat, bodyBytes, listBytes, valueBytes, tokenBytes, issuanceBytes, inputBytes, outputBytes, inputWitnessBytes, outputWitnessBytes, witnessesBytes, contentsBytes, confused, all}
 use Rattle.layout.specs.Records.{sum, placed, placedWitnesses, witnessesItems, beside, headOf, tablesOf}
-use Rattle.layout.specs.Writing.{records, body, valueOf, tokenOf, inputOf, outputOf, itemOf, inputWitnessOf, outputWitnessOf, contentsOf, valueRule, zeros₇, issuanceRule, inputWitnessRule, inputRule, tokenRule, outputWitnessRule, outputRule, itemRule, inputFault, inputFaults, ruleFaults, tableFaults, faults, Verdict, wrote, unwritten, over, Written, writtenLength, writing}
+use Rattle.layout.specs.Writing.{records, body, valueOf, tokenOf, inputOf, outputOf, itemOf, inputWitnessOf, outputWitnessOf, contentsOf, valueRule, zeros₇, issuanceRule, inputWitnessRule, inputRule, tokenRule, outputWitnessRule, outputRule, itemRule, inputFault, inputFaults, ruleFaults, tableFaults, faults, Verdict, wrote, unwritten, over, Written, writtenLength, writing, isFee}
 use Rattle.layout.proofs.Loads.{computes, everything, hex, hidden, oneAndOne, sizes, head, tables}
 
 -- Where this is unfolded, writing computes.
@@ -36,3 +40,171 @@ load-96-tables :
     tablesOf (sizes 25 14 2) (contentsOf (head 2 0 1 1 0 0 0) t (oneAndOne "00" "")) ≡ t
 unfolding writes
 load-96-tables = refl
+
+-- ---- refusals
+
+-- The records of 01's 96-byte load: one input and one output. Its source: 96 bytes, of which the writer looks at none to judge.
+abbrev in96 : List ℕ
+in96 = 6 ∷ 0 ∷ 0 ∷ 43 ∷ 0 ∷ 4294967294 ∷ 0 ∷ 0 ∷ 0 ∷ 0 ∷ 0 ∷ 0 ∷ 0 ∷ 0 ∷ 0 ∷ 0 ∷ 0 ∷ 0 ∷ 0 ∷ 0 ∷ []
+
+abbrev out96 : List ℕ
+out96 = 1 ∷ 48 ∷ 1 ∷ 81 ∷ 0 ∷ 400 ∷ 0 ∷ 90 ∷ 92 ∷ 0 ∷ 0 ∷ 0 ∷ 0 ∷ 0 ∷ []
+
+-- The 103-byte load's: the same with a witness that has one item.
+abbrev in103 : List ℕ
+in103 = 6 ∷ 0 ∷ 0 ∷ 43 ∷ 0 ∷ 4294967294 ∷ 0 ∷ 0 ∷ 0 ∷ 0 ∷ 0 ∷ 0 ∷ 0 ∷ 97 ∷ 0 ∷ 98 ∷ 0 ∷ 0 ∷ 1 ∷ 0 ∷ []
+
+abbrev out103 : List ℕ
+out103 = 1 ∷ 48 ∷ 1 ∷ 81 ∷ 0 ∷ 400 ∷ 0 ∷ 90 ∷ 92 ∷ 0 ∷ 102 ∷ 0 ∷ 103 ∷ 0 ∷ []
+
+-- An issuance on the input at 43, over a source of 177 bytes: explicit amount 1 (9 bytes), keys of prefix 8 (33 bytes); 43 + 64 + 42 = 149.
+abbrev issuing : ℕ → List ℕ
+issuing flags = 6 ∷ 0 ∷ flags ∷ 42 ∷ 0 ∷ 1 ∷ 43 ∷ 1 ∷ 0 ∷ 1 ∷ 8 ∷ 0 ∷ 0 ∷ 0 ∷ 0 ∷ 0 ∷ 0 ∷ 0 ∷ 0 ∷ 0 ∷ []
+
+-- flag 0, one input and one output, no item
+abbrev plainly : List ℕ → List ℕ → ℕ → Verdict
+plainly i o n = writtenLength (head 2 0 1 1 0 0 0) (tables i o []) (hidden n)
+
+abbrev input′ : ℕ → ℕ → Verdict
+input′ c v = plainly (set in96 c v) out96 96
+
+abbrev output′ : ℕ → ℕ → Verdict
+output′ c v = plainly in96 (set out96 c v) 96
+
+abbrev issued : ℕ → ℕ → Verdict
+issued c v = plainly (set (issuing 2) c v) out96 177
+
+-- flag 1, one of each
+abbrev flagged : List ℕ → List ℕ → List ℕ → Verdict
+flagged i o n = writtenLength (head 2 1 1 1 1 0 0) (tables i o n) (hidden 103)
+
+abbrev witness′ : ℕ → ℕ → Verdict
+witness′ c v = flagged (set in103 c v) out103 (100 ∷ 0 ∷ [])
+
+-- only heads and sizes
+abbrev headed : Verdict
+headed = writtenLength (head 2 2 1 0 0 0 0) (tables [] [] []) []
+
+record Case : Type 0 where
+  found : Verdict
+  told : Verdict
+
+infix 70 _gives_
+abbrev _gives_ : Verdict → Verdict → Case
+found gives told = record { found = found; told = told }
+
+abbrev AsTold : List Case → Type 0
+AsTold cs = map (λ c. c .found) cs ≡ map (λ c. c .told) cs
+
+refusals : AsTold (
+    -- as they are
+    plainly in96 out96 96 gives wrote 96 ∷
+    flagged in103 out103 (100 ∷ 0 ∷ []) gives wrote 103 ∷
+    plainly (issuing 2) out96 177 gives wrote 202 ∷
+    plainly (issuing 3) out96 177 gives wrote 202 ∷
+    -- 10: each count, and before 7
+    writtenLength (head 2 0 1 0 0 0 0) (tables (replicate 19 0) [] []) [] gives unwritten 10 0 ∷
+    writtenLength (head 2 0 0 1 0 0 0) (tables [] (replicate 13 0) []) [] gives unwritten 10 0 ∷
+    writtenLength (head 2 0 0 0 1 0 0) (tables [] [] (0 ∷ [])) [] gives unwritten 10 0 ∷
+    headed gives unwritten 10 0 ∷
+    -- 7, before the records; a flag isn't cut to a byte
+    writtenLength (head 2 2 1 0 0 0 0) (tables (replicate 20 0) [] []) [] gives unwritten 7 4 ∷
+    writtenLength (head 2 256 0 0 0 0 0) (tables [] [] []) [] gives unwritten 7 4 ∷
+    -- 13: the txid, the script and the output's parts pass the source by one
+    plainly in96 out96 91 gives unwritten 13 0 ∷
+    input′ 0 64 gives wrote 96 ∷
+    input′ 0 65 gives unwritten 13 0 ∷
+    input′ 3 96 gives wrote 96 ∷
+    input′ 3 97 gives unwritten 13 0 ∷
+    input′ 4 54 gives unwritten 13 0 ∷
+    output′ 1 63 gives wrote 96 ∷
+    output′ 1 64 gives unwritten 13 0 ∷
+    output′ 8 96 gives wrote 96 ∷
+    output′ 8 97 gives unwritten 13 0 ∷
+    -- 13: flags and prefixes not listed
+    input′ 2 4 gives unwritten 13 0 ∷
+    output′ 0 2 gives unwritten 13 0 ∷
+    output′ 2 2 gives unwritten 13 0 ∷
+    output′ 2 7 gives unwritten 13 0 ∷
+    output′ 6 4 gives unwritten 13 0 ∷
+    -- 13: a number that is not 0 where the rules say 0
+    input′ 6 1 gives unwritten 13 0 ∷
+    input′ 9 1 gives unwritten 13 0 ∷
+    input′ 12 1 gives unwritten 13 0 ∷
+    input′ 13 1 gives unwritten 13 0 ∷
+    input′ 19 1 gives unwritten 13 0 ∷
+    output′ 10 1 gives unwritten 13 0 ∷
+    output′ 13 1 gives unwritten 13 0 ∷
+    output′ 2 0 gives unwritten 13 0 ∷
+    plainly in96 (set (set out96 2 8) 5 0) 114 gives wrote 120 ∷
+    plainly in96 (set (set out96 2 8) 5 0) 113 gives unwritten 13 0 ∷
+    output′ 2 8 gives unwritten 13 0 ∷
+    -- 13: an issuance that passes the source by one; its values
+    plainly (issuing 2) out96 149 gives wrote 202 ∷
+    plainly (issuing 2) out96 148 gives unwritten 13 0 ∷
+    issued 7 2 gives unwritten 13 0 ∷
+    issued 11 1 gives unwritten 13 0 ∷
+    -- 13: the first item's index; proofs and items past the source
+    witness′ 17 1 gives unwritten 13 0 ∷
+    witness′ 13 103 gives wrote 103 ∷
+    witness′ 13 104 gives unwritten 13 0 ∷
+    witness′ 15 104 gives unwritten 13 0 ∷
+    flagged in103 (set out103 12 104) (100 ∷ 0 ∷ []) gives unwritten 13 0 ∷
+    flagged in103 out103 (104 ∷ 0 ∷ []) gives unwritten 13 0 ∷
+    flagged in103 out103 (100 ∷ 4 ∷ []) gives unwritten 13 0 ∷
+    -- 13 at the number of inputs: the items don't add up
+    witness′ 18 2 gives unwritten 13 1 ∷
+    writtenLength (head 2 1 0 0 1 0 0) (tables [] [] (0 ∷ 0 ∷ [])) [] gives unwritten 13 0 ∷
+    -- with flag 0: an item that isn't 0, 0 stands at its number; one that is, at the number of inputs
+    writtenLength (head 2 0 2 0 1 0 0) (tables (replicate 40 0) [] (0 ∷ 1 ∷ [])) (hidden 32) gives unwritten 13 0 ∷
+    writtenLength (head 2 0 2 0 1 0 0) (tables (replicate 40 0) [] (0 ∷ 0 ∷ [])) (hidden 32) gives unwritten 13 2 ∷
+    -- sums that pass 2^32: no first index equals them
+    writtenLength (head 2 1 2 0 0 0 0) (tables (set (set (replicate 40 0) 18 4294967295) 19 1) [] []) (hidden 32) gives unwritten 13 1 ∷
+    -- 12: its three cases, and their neighbours
+    input′ 1 1073741823 gives wrote 96 ∷
+    input′ 1 1073741824 gives unwritten 12 0 ∷
+    input′ 1 4294967294 gives unwritten 12 0 ∷
+    input′ 1 4294967295 gives wrote 96 ∷
+    plainly (set (set in96 1 4294967295) 2 1) out96 96 gives unwritten 12 0 ∷
+    plainly (set (set in96 1 1073741823) 2 1) out96 96 gives wrote 96 ∷
+    plainly (set (issuing 2) 1 1073741823) out96 177 gives wrote 202 ∷
+    plainly (set (issuing 3) 1 1073741823) out96 177 gives unwritten 12 0 ∷
+    -- 6: an issuance without values; 13 before 12 before 6
+    plainly (set (set (set (issuing 2) 7 0) 9 0) 10 0) out96 177 gives unwritten 6 0 ∷
+    plainly (set (set (set (set (issuing 2) 7 0) 9 0) 10 0) 1 1073741824) out96 177 gives unwritten 12 0 ∷
+    plainly (set (set (set (set (set (issuing 2) 7 0) 9 0) 10 0) 1 1073741824) 13 1) out96 177 gives unwritten 13 0 ∷
+    -- record after record: the first one's 12 before the second one's 13
+    writtenLength (head 2 0 2 0 0 0 0) (tables (set (set (replicate 40 0) 1 1073741824) 22 4) [] []) (hidden 32) gives unwritten 12 0 ∷
+    writtenLength (head 2 0 2 0 0 0 0) (tables (set (replicate 40 0) 22 4) [] []) (hidden 32) gives unwritten 13 1 ∷
+    -- 8, behind every 13
+    writtenLength (head 2 1 1 0 0 0 0) (tables (replicate 20 0) [] []) (hidden 32) gives unwritten 8 4 ∷
+    writtenLength (head 2 1 1 0 1 0 0) (tables (replicate 20 0) [] (0 ∷ 0 ∷ [])) (hidden 32) gives unwritten 13 1 ∷
+    writtenLength (head 2 1 0 0 0 0 0) (tables [] [] []) [] gives unwritten 8 4 ∷
+    [])
+unfolding writes
+refusals = refl
+
+-- 14, and the output as it was; 8 and 13 before it
+short-output :
+    writing (head 2 0 1 1 0 0 0) (tables in96 out96 []) (hidden 96) (replicate 95 7) ≡ record { answer = unwritten 14 0; output = replicate 95 7 }
+unfolding writes
+short-output = refl
+
+refused-output :
+    writing (head 2 0 1 1 0 0 0) (tables (set in96 2 4) out96 []) (hidden 96) (replicate 100 7) ≡ record { answer = unwritten 13 0; output = replicate 100 7 }
+unfolding writes
+refused-output = refl
+
+-- ---- not read
+
+-- Any position of a null nonce and of an explicit value, any head length, a bad record behind the count: the same bytes.
+not-read :
+    writing (head 2 0 1 1 0 0 4294967295) (tables (in96 ++ replicate 20 9) (set (set out96 3 4294967295) 7 4294967295 ++ replicate 14 9) (9 ∷ 9 ∷ [])) (hidden 96) (replicate 97 7)
+    ≡ writing (head 2 0 1 1 0 0 0) (tables in96 out96 []) (hidden 96) (replicate 97 7)
+unfolding writes
+not-read = refl
+
+-- ---- the fee question
+
+fees : map isFee (out96 ∷ set out96 9 1 ∷ set out96 8 0 ∷ replicate 14 4294967295 ∷ replicate 14 0 ∷ []) ≡ true ∷ false ∷ true ∷ false ∷ true ∷ []
+fees = refl
