@@ -26,13 +26,21 @@ use Rattle.decoders.specs.declared.Answer.the-variants.{Finished, More, 
 use Rattle.decoders.specs.declared.Fed.{Fed}
 use Rattle.decoders.specs.Machine.{State, refuse, answerOf, machine, Machine, fed, step, fresh, gather, entering, settle}
 use Rattle.decoders.specs.Range.{inRange}
-use Rattle.decoders.specs.Feeding.{tables, sizesOf, cleared, layoutSizes, begun, told, Out, out, outOf, gate, closed, pushed, ended, finish}
+use Rattle.decoders.specs.Feeding.{tables, sizesOf, cleared, layoutSizes, begun, told, toldNumber, toldPlace, toldHead, Out, out, outOf, gate, closed, pushed, ended, finish}
 use Rattle.decoders.specs.Needs.{Starts}
 use Rattle.decoders.proofs.Simulation.{fed-append, fed-ended}
 use Rattle.decoders.proofs.Feeds.{Lengths, fed-range, fed-sizes, fed-lengths, fed-taken, settle-taken}
 use Rattle.decoders.proofs.Ranges.{fresh-range, finish-range, by-stage}
 use Rattle.decoders.proofs.Fresh.{reading, after, reads, after-range, after-cleared, cleared-lengths, zero-lengths, closed-shows, answer-finish, finish-taken}
 use Rattle.decoders.proofs.Entries.{gate-starts, finish-closes}
+
+-- ---- what the caller is told
+
+-- the enum's number, place and head numbers are those of 01's answer
+pub told-numbers : (a : layout.Answer Head) → (toldNumber (told a) ≡ outcome.numberOf a) × (toldPlace (told a) ≡ outcome.placeOf a) × (toldHead (told a) ≡ outcome.headShown a)
+told-numbers (layout.finished h) = (refl, refl, refl)
+told-numbers layout.more = (refl, refl, refl)
+told-numbers (layout.refused n p) = (refl, refl, refl)
 
 -- ---- demand 1: it never trusts the caller
 
@@ -76,6 +84,15 @@ pushed-open s t xs e = rw (eq-eqb (gate s (sizesOf t)) 0 e)
 ended-open : (s : State) (t : Tables) → gate s (sizesOf t) ≡ 0 → ended s t ≡ closed (finish s) 0 t
 unfolding ended
 ended-open s t e = rw (eq-eqb (gate s (sizesOf t)) 0 e)
+
+-- and what it answers
+open-answer : (s : State) (t : Tables) (xs : List ℕ) → gate s (sizesOf t) ≡ 0 → pushed s t xs .fed .answer ≡ told (answerOf (fed (machine s t) xs .state))
+unfolding closed
+open-answer s t xs g = ap (λ (x : Out). x .fed .answer) (pushed-open s t xs g)
+
+open-answer-end : (s : State) (t : Tables) → gate s (sizesOf t) ≡ 0 → ended s t .fed .answer ≡ told (answerOf (finish s))
+unfolding closed
+open-answer-end s t g = ap (λ (x : Out). x .fed .answer) (ended-open s t g)
 
 -- a refusal is stage 26
 finished-not-refused : (h : _) (n p : ℕ) → _≡_ {A = Answer} (Finished h) (Refused n p) → ⊥
@@ -187,6 +204,12 @@ eleven-after-end s t h z =
     eleven-never (ended s t .fed .decoder) z (range-kept-end s t (range-from s t (ended s t)
     (λ g. ap (λ (x : Out). x .fed .answer) (misuse-untouched-end s t (λ e. omega (arith, e, g))) ∙ ap (λ (n : ℕ). Refused n 0) g) h))
 
+-- a state within its range and tables of its own sizes are let through
+pub gate-zero : (s : State) (z : Sizes) → inRange s ≡ true → s .sizes ≡ z → gate s z ≡ 0
+unfolding gate
+gate-zero s z r e =
+    rw (r, eq-eqb (s .sizes .inputs) (z .inputs) (ap (λ (x : Sizes). x .inputs) e), eq-eqb (s .sizes .outputs) (z .outputs) (ap (λ (x : Sizes). x .outputs) e), eq-eqb (s .sizes .items) (z .items) (ap (λ (x : Sizes). x .items) e))
+
 -- of a state within its range, 10 is given exactly where the sizes differ
 gate-known : (s : State) (z : Sizes) → inRange s ≡ true → (gate s z ≡ 0 → ⊥) → gate s z ≡ 10
 unfolding gate
@@ -195,8 +218,25 @@ gate-known s z r h =
     (λ c. absurd (h (rw (r, c))))
     (λ c. rw (r, c))
 
-pub ten-exactly : (s : State) (t : Tables) → inRange s ≡ true → (s .sizes ≡ sizesOf t → ⊥) → gate s (sizesOf t) ≡ 10
-ten-exactly s t r h = gate-known s (sizesOf t) r (λ z. h (gate-starts s t (gate s (sizesOf t)) refl z .sizes))
+pub ten-exactly : (s : State) (t : Tables) → inRange s ≡ true → ((s .sizes ≡ sizesOf t → ⊥) → gate s (sizesOf t) ≡ 10) × (gate s (sizesOf t) ≡ 10 → s .sizes ≡ sizesOf t → ⊥)
+ten-exactly s t r = ((λ h. gate-known s (sizesOf t) r (λ z. h (gate-starts s t (gate s (sizesOf t)) refl z .sizes))), (λ g e. omega (arith, g, gate-zero s (sizesOf t) r e)))
+
+-- said of the answer: 10 is never given where the sizes are the state's own
+pub ten-answer : (s : State) (t : Tables) (xs : List ℕ) (p : ℕ) → Bytes xs → pushed s t xs .fed .answer ≡ Refused 10 p → s .sizes ≡ sizesOf t → ⊥
+ten-answer s t xs p q e same =
+    by-cases (inRange s)
+    (λ r. let g = gate-zero s (sizesOf t) r same in
+    absurd (omega (arith, refused-small (fed (machine s t) xs .state) 10 p (fed-range (machine s t) xs q r) (sym (open-answer s t xs g) ∙ e))))
+    (λ r. let g = eleven-first s (sizesOf t) r in
+    absurd (omega (arith, g, same-number (gate s (sizesOf t)) 10 0 p (sym (ap (λ (x : Out). x .fed .answer) (misuse-untouched s t xs (λ z. omega (arith, z, g)))) ∙ e))))
+
+pub ten-answer-end : (s : State) (t : Tables) (p : ℕ) → ended s t .fed .answer ≡ Refused 10 p → s .sizes ≡ sizesOf t → ⊥
+ten-answer-end s t p e same =
+    by-cases (inRange s)
+    (λ r. let g = gate-zero s (sizesOf t) r same in
+    absurd (omega (arith, refused-small (finish s) 10 p (finish-closes s r) (sym (open-answer-end s t g) ∙ e))))
+    (λ r. let g = eleven-first s (sizesOf t) r in
+    absurd (omega (arith, g, same-number (gate s (sizesOf t)) 10 0 p (sym (ap (λ (x : Out). x .fed .answer) (misuse-untouched-end s t (λ z. omega (arith, z, g)))) ∙ e))))
 
 -- every call keeps the sizes, so they stay the fresh start's
 pub sizes-kept : (s : State) (t : Tables) (xs : List ℕ) → pushed s t xs .fed .decoder .sizes ≡ s .sizes
@@ -226,6 +266,56 @@ ended-repeats s t xs g h =
 pub ended-repeats-end : (s : State) (t : Tables) → gate s (sizesOf t) ≡ 0 → 25 ≤ s .field .stage → ended s t ≡ closed s 0 t
 unfolding finish
 ended-repeats-end s t g h = ended-open s t g ∙ ap (λ (x : State). closed x 0 t) (rw (le-leb 25 (s .field .stage) h))
+
+-- a finished reading leaves the tables, whatever stands in them
+pub finished-leaves : (s : State) (t : Tables) (xs : List ℕ) → gate s (sizesOf t) ≡ 0 → s .field .stage ≡ 25 → (pushed s t xs .tables ≡ t) × (ended s t .tables ≡ t)
+unfolding closed
+finished-leaves s t xs g e =
+    let n : s .field .stage ≡ 26 → ⊥ = λ q. omega arith in
+    let over : 25 ≤ s .field .stage = omega (arith, e) in
+    let c : closed s 0 t .tables ≡ t = rw (ne-eqb (s .field .stage) 26 n) in
+    (ap (λ (o : Out). o .tables) (ended-repeats s t xs g over) ∙ c, ap (λ (o : Out). o .tables) (ended-repeats-end s t g over) ∙ c)
+
+-- the tables are never read back: what stands in them moves no answer, count or state
+step-apart : (s : State) (t t′ : Tables) (b : ℕ) → step (machine s t) b .state ≡ step (machine s t′) b .state
+unfolding step entering
+step-apart s t t′ b =
+    by-cases (leb 25 (s .field .stage))
+    (λ l. rw l)
+    (λ l. by-cases (eqb (s .field .have + 1) (s .field .width)) (λ e. rw (l, e)) (λ e. rw (l, e)))
+
+fed-apart : (xs : List ℕ) (s : State) (t t′ : Tables) → fed (machine s t) xs .state ≡ fed (machine s t′) xs .state
+unfolding fed
+fed-apart [] s t t′ = refl
+fed-apart (b ∷ xs) s t t′ =
+    let m = step (machine s t) b in
+    let m′ = step (machine s t′) b in
+    fed-apart xs (m .state) (m .tables) (m′ .tables)
+    ∙ ap (λ (x : State). fed (machine x (m′ .tables)) xs .state) (step-apart s t t′ b)
+
+pub tables-apart : (s : State) (t t′ : Tables) (xs : List ℕ) → sizesOf t ≡ sizesOf t′ → pushed s t xs .fed ≡ pushed s t′ xs .fed
+unfolding closed
+tables-apart s t t′ xs e =
+    by-cases (eqb (gate s (sizesOf t)) 0)
+    (λ g. let z = eqb-true (gate s (sizesOf t)) 0 g in
+    ap (λ (o : Out). o .fed) (pushed-open s t xs z)
+    ∙ ap (λ (x : State). out x (x .taken - s .taken) (told (answerOf x)) t .fed) (fed-apart xs s t t′)
+    ∙ sym (ap (λ (o : Out). o .fed) (pushed-open s t′ xs (sym (ap (λ (y : Sizes). gate s y) e) ∙ z))))
+    (λ g. let h = eqb-false (gate s (sizesOf t)) 0 g in
+    ap (λ (o : Out). o .fed) (misuse-untouched s t xs h)
+    ∙ ap (λ (y : Sizes). out s 0 (Refused (gate s y) 0) t .fed) e
+    ∙ sym (ap (λ (o : Out). o .fed) (misuse-untouched s t′ xs (λ q. h (ap (λ (y : Sizes). gate s y) e ∙ q)))))
+
+pub tables-apart-end : (s : State) (t t′ : Tables) → sizesOf t ≡ sizesOf t′ → ended s t .fed ≡ ended s t′ .fed
+unfolding closed
+tables-apart-end s t t′ e =
+    by-cases (eqb (gate s (sizesOf t)) 0)
+    (λ g. let z = eqb-true (gate s (sizesOf t)) 0 g in
+    ap (λ (o : Out). o .fed) (ended-open s t z) ∙ sym (ap (λ (o : Out). o .fed) (ended-open s t′ (sym (ap (λ (y : Sizes). gate s y) e) ∙ z))))
+    (λ g. let h = eqb-false (gate s (sizesOf t)) 0 g in
+    ap (λ (o : Out). o .fed) (misuse-untouched-end s t h)
+    ∙ ap (λ (y : Sizes). out s 0 (Refused (gate s y) 0) t .fed) e
+    ∙ sym (ap (λ (o : Out). o .fed) (misuse-untouched-end s t′ (λ q. h (ap (λ (y : Sizes). gate s y) e ∙ q)))))
 
 -- ---- feeding: pieces
 
@@ -326,12 +416,6 @@ shows t xs q n =
     closed-shows (after t xs q .state) n (after t xs q .tables) (cleared t) _ (reads t xs q .answer) (after-cleared t xs q)
     ∙ ap (λ (x : Tables). out (after t xs q .state) n (told (reading t xs q .answer)) (shown (reading t xs q .answer) x (cleared t))) (reads t xs q .tables)
 
--- the gate lets such a state through
-gate-zero : (s : State) (z : Sizes) → inRange s ≡ true → s .sizes ≡ z → gate s z ≡ 0
-unfolding gate
-gate-zero s z r e =
-    rw (r, eq-eqb (s .sizes .inputs) (z .inputs) (ap (λ (x : Sizes). x .inputs) e), eq-eqb (s .sizes .outputs) (z .outputs) (ap (λ (x : Sizes). x .outputs) e), eq-eqb (s .sizes .items) (z .items) (ap (λ (x : Sizes). x .items) e))
-
 sizes-same : (t t′ : Tables) → Lengths t t′ → sizesOf t ≡ sizesOf t′
 sizes-same t t′ l = λ i. record { inputs = sym (l .inputs) i; outputs = sym (l .outputs) i; items = sym (l .items) i }
 
@@ -395,6 +479,14 @@ pub answer-repeats-end : (s : State) (t : Tables) → gate s (sizesOf t) ≡ 0 �
 answer-repeats-end s t g =
     let b = gate-starts s t (gate s (sizesOf t)) refl g in
     subst Repeats (sym (ended-open s t g)) (closed-repeats (finish s) 0 t (finish-closes s (b .range)) (finish-sizes s ∙ b .sizes) (finish-over s))
+
+-- after every finish, a misused one too
+pub repeats-every-end : (s : State) (t : Tables) → Repeats (ended s t)
+repeats-every-end s t =
+    by-cases (eqb (gate s (sizesOf t)) 0)
+    (λ g. answer-repeats-end s t (eqb-true (gate s (sizesOf t)) 0 g))
+    (λ g. let h = eqb-false (gate s (sizesOf t)) 0 g in
+    subst Repeats (sym (misuse-untouched-end s t h)) ((λ ys. misuse-untouched s t ys h), misuse-untouched-end s t h))
 
 pub end-never-more : (s : State) (t : Tables) → ended s t .fed .answer ≡ More → ⊥
 unfolding closed

@@ -3,6 +3,7 @@
 use Prim.Native.Nat.{ℕ, _-_}
 use mathlib.Core.Bool.{cond, _&&_}
 use mathlib.Core.List.{List}
+use mathlib.Core.Option.{Option, none, some}
 use lib.Dec.{leb, ltb, eqb}
 use lib.ListN.{length, replicate}
 use Rattle.layout.specs.Layout as layout
@@ -17,12 +18,29 @@ use Rattle.decoders.specs.declared.Read.{Read}
 use Rattle.decoders.specs.Machine.{State, refuse, Machine, machine, fed, answerOf, fresh}
 use Rattle.decoders.specs.Range.{inRange}
 
--- document 01's answer as the enum has it; layout's numberOf, placeOf and headShown give its number, place and head numbers
+-- document 01's answer as the enum has it
 abbrev pub told : layout.Answer transaction.Head → Answer
 told (layout.finished h) =
     Finished (record { version = h .version; flag = h .flag; inputs = h .inputs; outputs = h .outputs; items = h .items; locktime = h .locktime; bytes = h .bytes })
 told layout.more = More
 told (layout.refused n p) = Refused n p
+
+-- document 01's number and place of the enum's cases, and the head numbers that show. `told` keeps all three: Theorems, `told-numbers`.
+abbrev pub toldNumber : Answer → Option ℕ
+toldNumber (Finished h) = some 0
+toldNumber More = none
+toldNumber (Refused n p) = some n
+
+abbrev pub toldPlace : Answer → ℕ
+toldPlace (Finished h) = 0
+toldPlace More = 0
+toldPlace (Refused n p) = p
+
+abbrev pub toldHead : Answer → transaction.Head
+toldHead (Finished h) =
+    record { version = h .version; flag = h .flag; inputs = h .inputs; outputs = h .outputs; items = h .items; locktime = h .locktime; bytes = h .bytes }
+toldHead More = outcome.noHead
+toldHead (Refused n p) = outcome.noHead
 
 abbrev pub sizes : ℕ → ℕ → ℕ → Sizes
 sizes i o n = record { inputs = i; outputs = o; items = n }

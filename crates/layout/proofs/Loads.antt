@@ -5,20 +5,23 @@
 --     every-feature   one transaction with all that a transaction can have, laid out byte by byte
 --     bearing-bytes   which bytes of that one are bearing, and bearing-cut of cut ones
 --     edges, limits   loads that pin one rule each: what is refused first, what a table holds so far, where the limits lie
+--     locktime-ends, locktime-limit   the locktime at the limit, of whole transactions of 4,000,000 bytes
 use Prim.Native.Nat.{ℕ, zero, suc, _+_, _-_, _*_, _^_}
 use Prim.Native.Char.{code}
 use Prim.Native.String.{String, [] as nothing, _∷_ as _then_}
-use mathlib.Core.Path.{_≡_, refl}
+use mathlib.Core.Path.{_≡_, refl, _∙_, ap}
 use mathlib.Core.Bool.{Bool, true, false, not, cond}
 use mathlib.Core.List.{List, [], _∷_, _++_, map}
 use lib.Dec.{ltb, eqb}
 use lib.ListN.{length, replicate, drop, getD}
 use Rattle.layout.specs.Number.{little, value}
-use Rattle.layout.specs.Layout.{Layout, Answer, finished, more, refused, accept, input, output, scriptBody, assetPart, run, reading, hides}
+use Rattle.layout.specs.Layout.{Layout, number, opaque, refuse, Answer, finished, more, refused, accept, input, output, scriptBody, assetPart, run, Reading, reading, behind, hides}
 use Rattle.layout.specs.Transaction.{Head, transaction, entry, assetPrefix, seen, allOnes, flagBit, vout, flags}
 use Rattle.layout.specs.Transaction.{within, furtherAt, numberAt, opaqueAt, compactAt, countAt, bodyAt, valueAt, prefixedAt, each}
 use Rattle.layout.specs.Transaction.{issuanceAt, inputAt, outputAt, itemAt, stackAt, inputWitnessAt, outputWitnessAt}
 use Rattle.layout.specs.Outcome.{Sizes, Tables, Outcome, zeros, laid, readingOf, partial, atOnce, strict, bears, roomOf}
+use Rattle.layout.proofs.Reading.{rest, chain, cut}
+use Rattle.layout.proofs.Codes.{field-run}
 
 -- ---- Bytes, as document 01 writes them
 
@@ -698,3 +701,26 @@ limits : AsTold (
     [])
 unfolding computes
 limits = refl
+
+-- The locktime stands behind the outputs: one output, and so long a script, whatever its bytes. The output's three prefixes are at 7 to 9,
+-- the script's length at 10, the script at 15; the locktime at 3,999,996 ends at the limit, at 3,999,997 it would end past it.
+abbrev toScript : String → List ℕ
+toScript long = hex "02000000 00 00 01 00 00 00" ++ hex long
+
+scripted : (w : ℕ) (l : Layout Head) (script ys : List ℕ) → length script ≡ w → run (opaque scriptBody w l) (script ++ ys) ≡ behind w (run l ys)
+unfolding run
+scripted w l script ys e = field-run w (λ _. l) script ys e
+
+locktime-ends : (script : List ℕ) → length script ≡ 3999981 → answerIn one (toScript "feed083d00" ++ (script ++ hex "07000000")) ≡ answers (finished (head 2 0 0 1 0 7 4000000)) 4000000
+unfolding computes rest
+locktime-ends script e =
+    ap (λ (r : Reading Head). answers (r .answer) (r .taken))
+    (cut (transaction (roomOf one)) (toScript "feed083d00") (script ++ hex "07000000")
+    ∙ ap (chain (readingOf one (toScript "feed083d00"))) (scripted 3999981 (number little 4 λ n. accept (head 2 0 0 1 0 n 4000000)) script (hex "07000000") e))
+
+locktime-limit : (script ys : List ℕ) → length script ≡ 3999982 → answerIn one (toScript "feee083d00" ++ (script ++ ys)) ≡ answers (refused 2 3999997) 3999997
+unfolding computes rest
+locktime-limit script ys e =
+    ap (λ (r : Reading Head). answers (r .answer) (r .taken))
+    (cut (transaction (roomOf one)) (toScript "feee083d00") (script ++ ys)
+    ∙ ap (chain (readingOf one (toScript "feee083d00"))) (scripted 3999982 (refuse 2 3999997) script ys e))

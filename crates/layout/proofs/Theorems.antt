@@ -1,32 +1,34 @@
 -- What follows from document 01's reading alone, in its own terms. docs/THEOREMS.md says which sentence each carries.
 use Prim.Native.Nat.{ℕ, zero, suc, _+_, _-_, _*_, _^_, _<_, _≤_}
 use mathlib.Core.Path.{_≡_, refl, sym, _∙_, ap, ap₂, subst}
-use mathlib.Core.Bool.{Bool, true, false, cond, not, _&&_}
-use mathlib.Core.List.{List, [], _∷_, _++_}
-use mathlib.Core.Option.{some, none}
+use mathlib.Core.List.{List, [], _∷_, _++_, append-nil}
+use mathlib.Core.Option.{Option, some, none}
 use native.Mathlib.Nat.{zero-add, mul-suc, mul-le-mul-left, le-trans}
 use native.Mathlib.Omega.{arith}
 use lib.Dec.{ltb, lit<}
-use lib.ListN.{length, getD, replicate, set}
+use lib.ListN.{length, getD, replicate, set, length-set}
 use lib.Seq.{sets, getD-set-other, getD-set-same, set-out}
 use borrow.Author.Tests.{ltb-true, ltb-false, lt-ltb}
 use Rattle.layout.specs.Number.{Bytes}
-use Rattle.layout.specs.Layout.{Layout, Answer, finished, more, refused, Reading, reading, Entry, Table, input, output, item, run, hides}
+use Rattle.layout.specs.Layout.{Layout, Answer, finished, more, refused, Reading, reading, Entry, Table, input, output, item, run}
 use Rattle.layout.specs.Transaction.{Head, Room, limit, transaction}
 use Rattle.layout.specs.Outcome.{Tables, Sizes, width, roomOf, zeros, change, lay, laid, Outcome, shown, outcome, readingOf, partial, finish, ended, atOnce, follow, strictly, strict, bears, Bearing, Agree, numberOf, placeOf, headShown, noHead}
+use Rattle.layout.specs.Contents.{Issuance, Input, flat, issuanceBytes, inputBytes, contentsBytes, Every, Flagged, InputAllowed}
+use Rattle.layout.specs.Records.{headOf, issuanceColumns, inputColumns, placed, beside, inputsAt, witnessesAt, inputWitnessRecords}
+use Rattle.layout.specs.Writing.{records}
 use Rattle.layout.proofs.Reading as reading-laws
 use Rattle.layout.proofs.Reading.{by-cases, chain, rest, finished-not-more, refused-not-finished}
-use Rattle.layout.proofs.Sound.{Each, Fair, Inside, Kept, Done, Rows, AtMost, rowsOf, counts, rows, endOf, transaction-kept}
+use Rattle.layout.proofs.Sound.{Each, Fair, Inside, Kept, Done, Rows, AtMost, rowsOf, counts, rows, promised, endOf, transaction-kept}
+use Rattle.layout.proofs.Whole.{wholeLog, reads, found}
+use Rattle.layout.proofs.Laying.{inputRows, input-rows-wide, input-rows-length, laid-whole}
+use Rattle.layout.proofs.Showing.{Stands, stands-first, stands-next, stands-lies, value-width, issuance-stands, input-stands, standing, records-rows}
 
 -- ---- demand 3's second half
-
-bears-there : (n i : ℕ) (hidden : Bool) → i < n → hidden ≡ false → (ltb i n && not hidden) ≡ true
-bears-there n i hidden h e = rw (lt-ltb i n h, e)
 
 pub blind : (z : Sizes) (xs ys : List ℕ) → Agree z xs ys → readingOf z xs ≡ readingOf z ys
 blind z xs ys a =
     reading-laws.blind (transaction (roomOf z)) xs ys (a .alike) λ i h e.
-    a .bearing i (bears-there (readingOf z xs .taken) i (hides (transaction (roomOf z)) xs i) h e)
+    a .bearing i (simp (lt-ltb i (readingOf z xs .taken) h, e))
 
 pub blind-partial : (z : Sizes) (xs ys : List ℕ) → Agree z xs ys → partial z xs ≡ partial z ys
 blind-partial z xs ys a = ap (outcome z) (blind z xs ys a)
@@ -36,6 +38,13 @@ blind-at-once z xs ys a = ap (λ r. outcome z (ended r)) (blind z xs ys a)
 
 pub blind-strict : (z : Sizes) (xs ys : List ℕ) → Agree z xs ys → strict z xs ≡ strict z ys
 blind-strict z xs ys a = ap₂ (λ r n. outcome z (strictly n (ended r))) (blind z xs ys a) (a .alike)
+
+-- a byte that isn't bearing may be any other: the inputs agree, and so have the same reading
+pub agree-hidden : (z : Sizes) (xs : List ℕ) (i v : ℕ) → (Bearing z xs i → ⊥) → Agree z xs (set xs i v)
+agree-hidden z xs i v h = record {
+  alike = sym (length-set xs i v);
+  bearing = λ j b. sym (getD-set-other xs i j v 0 (λ e. h (subst (λ (n : ℕ). Bearing z xs n) e b)));
+}
 
 -- ---- cutting
 
@@ -85,6 +94,10 @@ refused-zero-strict z xs n p e = (refused-shown (strict z xs .answer) _ (zeros z
 -- finished is answer 0 at place 0; more wanted has no number and place 0; a refusal has its own
 pub answer-numbers : (h : Head) (n p : ℕ) → (numberOf (finished h) ≡ some 0) × (placeOf (finished h) ≡ 0) × (numberOf {A = Head} more ≡ none) × (placeOf {A = Head} more ≡ 0) × (numberOf {A = Head} (refused n p) ≡ some n) × (placeOf {A = Head} (refused n p) ≡ p)
 answer-numbers h n p = (refl, refl, refl, refl, refl, refl)
+
+-- a finished reading's head numbers are those read; otherwise none shows, that is, each is 0
+pub head-numbers : (h : Head) (n p : ℕ) → (headShown (finished h) ≡ h) × (headShown more ≡ record { version = 0; flag = 0; inputs = 0; outputs = 0; items = 0; locktime = 0; bytes = 0 }) × (headShown (refused n p) ≡ record { version = 0; flag = 0; inputs = 0; outputs = 0; items = 0; locktime = 0; bytes = 0 })
+head-numbers h n p = (refl, refl, refl)
 
 -- every entry stays in its record, and its numbers are below 2^32
 pub entries-fair : (z : Sizes) (xs : List ℕ) → Bytes xs → Each Fair (readingOf z xs .log)
@@ -228,3 +241,46 @@ numbers-small z xs bytes =
 
     stores : Each (Stores (λ _. Small)) (readingOf z xs .log)
     stores = each-map (λ en fair ns. sets-small (en .numbers) ns _ (fair .small)) (readingOf z xs .log) (entries-fair z xs bytes)
+
+-- ---- an issuance's amount and keys
+
+-- an input record with the issuance flag: from its position on, blinding nonce and entropy, amount and keys lie within so many bytes
+abbrev pub Issued : ℕ → List ℕ → Type 0
+Issued n r = 2 ≤ getD r 2 0 → getD r 6 0 + 64 + promised (getD r 7 0) + promised (getD r 10 0) ≤ n
+
+module _ (source : List ℕ) where
+  issued : (at flags : ℕ) (o : Option Issuance) → Flagged flags o → Stands source at (issuanceBytes o) → (ws : List ℕ) → Issued (length source) (0 ∷ 0 ∷ flags ∷ 0 ∷ 0 ∷ 0 ∷ (issuanceColumns at o ++ ws))
+  issued at flags none g s ws = λ h. absurd (omega arith)
+  issued at flags (some x) g s ws =
+      let t = issuance-stands source at x (g .2) s in
+      λ h. omega (arith, stands-lies _ _ (t .keys), value-width (x .keys) (g .2 .keys))
+
+  rows-issued : (xs : List Input) (at : ℕ) (ws : List (List ℕ)) → Every InputAllowed xs → Stands source at (flat inputBytes xs) → Every (Issued (length source)) (beside (placed inputBytes inputColumns at xs) ws)
+  unfolding flat placed beside
+  rows-issued [] at ws g s = tt
+  rows-issued (x ∷ xs) at [] g s = tt
+  rows-issued (x ∷ xs) at (w ∷ ws) g s =
+      let t = input-stands source at x (g .0) (stands-first at (inputBytes x) (flat inputBytes xs) s) in
+      (issued _ (x .flags) (x .issuance) (g .0 .issuance) (t .issuance) w, rows-issued xs (at + length (inputBytes x)) ws (g .1) (stands-next at (inputBytes x) (flat inputBytes xs) s))
+
+itself-stands : (source : List ℕ) → Stands source 0 source
+itself-stands source = record { front = []; behind = []; long = refl; same = sym (append-nil source) }
+
+finished-same : {g h : Head} → _≡_ {A = Answer Head} (finished g) (finished h) → g ≡ h
+finished-same e = cc
+
+-- finished: what `within-bytes` leaves out, since an issuance's prefixes are entered without their positions
+pub issuance-within : (z : Sizes) (xs : List ℕ) → Bytes xs → (h : Head) → readingOf z xs .answer ≡ finished h → Every (Issued (readingOf z xs .taken)) (records (width input) (h .inputs) (partial z xs .tables .inputs))
+issuance-within z xs bytes h e =
+    let u = found (roomOf z) xs h bytes e in
+    let x = u .contents in
+    let g = u .formed in
+    let r = ap (readingOf z) (u .same) ∙ reads (roomOf z) x g (u .within) (u .rest) in
+    let same : headOf x ≡ h = finished-same (sym (ap (λ (y : Reading Head). y .answer) r) ∙ e) in
+    let rows : records (width input) (length (x .inputs)) (laid (wholeLog (roomOf z) 0 x) (zeros z) .inputs) ≡ inputRows x =
+    ap (λ (t : Tables). records (width input) (length (x .inputs)) (t .inputs)) (laid-whole x (g .witnesses) z (g .fits))
+    ∙ records-rows (width input) (inputRows x) (length (x .inputs)) _ (input-rows-wide x (g .witnesses)) (input-rows-length x (g .witnesses)) in
+    let all = rows-issued (contentsBytes x) (x .inputs) (inputsAt x) (inputWitnessRecords (witnessesAt x) (length (x .inputs)) (x .witnesses)) (g .inputs) (standing (contentsBytes x) x (itself-stands (contentsBytes x)) .inputs) in
+    subst (λ (k : Head). Every (Issued (readingOf z xs .taken)) (records (width input) (k .inputs) (partial z xs .tables .inputs))) same
+    (subst (λ (y : Reading Head). Every (Issued (y .taken)) (records (width input) (length (x .inputs)) (outcome z y .tables .inputs))) (sym r)
+    (subst (λ (rs : List (List ℕ)). Every (Issued (length (contentsBytes x))) rs) (sym rows) all))

@@ -1,9 +1,9 @@
 -- end: wrong finishes.
 use Prim.Native.Nat.{ℕ}
 use mathlib.Core.Path.{_≡_, refl, sym, _∙_, ap}
-use mathlib.Core.Bool.{cond}
+use mathlib.Core.Bool.{cond, _&&_}
 use lib.Dec.{leb, eqb}
-use lib.ListN.{length, take}
+use lib.ListN.{length, take, replicate}
 use Rattle.layout.specs.Outcome.{Tables}
 use Rattle.decoders.specs.declared.Answer.{Answer}
 use Rattle.decoders.specs.declared.Answer.the-variants.{Finished, More, Refused}
@@ -129,6 +129,15 @@ clearsFinished s t = out (ended s t .fed .decoder) 0 (ended s t .fed .answer) (c
 pub clearsFinished-wrong : Wrong clearsFinished (after paying) (left paying)
 unfolding computes
 clearsFinished-wrong = apart (λ o. output 1 (o .tables)) 0 7 refl refl refl
+
+-- or only its item table, where it has no items
+abbrev clearsItems : State → Tables → Out
+clearsItems s t =
+    cond (eqb (s .field .stage) 25 && eqb (s .counts .items) 0) (out (ended s t .fed .decoder) 0 (ended s t .fed .answer) (tables (t .inputs) (t .outputs) (replicate (length (t .items)) 0))) (ended s t)
+
+pub clearsItems-wrong : Wrong clearsItems (after bare) former
+unfolding computes
+clearsItems-wrong = apart (λ o. item 0 (o .tables)) 0 7 refl refl refl
 
 -- the gate: none; 10 before 11; tables set to 0
 abbrev ungated : State → Tables → Out

@@ -67,6 +67,28 @@ placed (Finished h) = 0
 placed More = 0
 placed (Refused n p) = p
 
+-- its head numbers: how many inputs, and the version
+abbrev pub inputsTold : Answer → ℕ
+inputsTold (Finished h) = h .inputs
+inputsTold More = 0
+inputsTold (Refused n p) = 0
+
+abbrev pub versionTold : Answer → ℕ
+versionTold (Finished h) = h .version
+versionTold More = 0
+versionTold (Refused n p) = 0
+
+-- an answer whose head numbers inputs and outputs, or version and locktime, have changed places
+abbrev pub countsSwapped : Answer → Answer
+countsSwapped (Finished h) = Finished (record { version = h .version; flag = h .flag; inputs = h .outputs; outputs = h .inputs; items = h .items; locktime = h .locktime; bytes = h .bytes })
+countsSwapped More = More
+countsSwapped (Refused n p) = Refused n p
+
+abbrev pub endsSwapped : Answer → Answer
+endsSwapped (Finished h) = Finished (record { version = h .locktime; flag = h .flag; inputs = h .inputs; outputs = h .outputs; items = h .items; locktime = h .version; bytes = h .bytes })
+endsSwapped More = More
+endsSwapped (Refused n p) = Refused n p
+
 -- an answer's case
 abbrev pub kind : Answer → ℕ
 kind (Finished h) = 0
@@ -94,6 +116,10 @@ flagged = hex "02000000 02 00 00 00000000"
 -- no input and one output of null asset, value and nonce, and empty script: accepted, 15 bytes; output record 0, 7, 0, 8, 0, 0, 0, 9, 11, 0 ..
 abbrev pub paying : List ℕ
 paying = hex "02000000 00 00 01 00 00 00 00 00000000"
+
+-- one input without issuance, up to its vout: its txid position, vout and flags are entered
+abbrev pub spending : List ℕ
+spending = hex "02000000 00 01" ++ replicate 32 0xee ++ hex "00000000"
 
 -- one input, one output and one item of length 0, up to the surjection proof's length: input, output and item numbers are entered
 abbrev pub laden : List ℕ

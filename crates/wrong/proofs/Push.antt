@@ -1,17 +1,17 @@
 -- push_bytes: wrong feedings.
-use Prim.Native.Nat.{ℕ, _-_}
+use Prim.Native.Nat.{ℕ, _+_, _-_, _*_, _/_}
 use mathlib.Core.Path.{_≡_, refl, sym, _∙_, ap}
-use mathlib.Core.Bool.{cond}
+use mathlib.Core.Bool.{cond, _&&_}
 use mathlib.Core.List.{List, [], _∷_, _++_}
 use lib.Dec.{leb, eqb}
-use lib.ListN.{length, take, drop}
+use lib.ListN.{length, take, drop, getD, replicate, set}
 use Rattle.layout.specs.Outcome.{Tables}
 use Rattle.decoders.specs.declared.Answer.{Answer}
 use Rattle.decoders.specs.declared.Answer.the-variants.{Finished, More, Refused}
-use Rattle.decoders.specs.Machine.{State, machine, refuse, fed, field, setVersion}
+use Rattle.decoders.specs.Machine.{State, machine, refuse, fed, field, setVersion, setIssuance}
 use Rattle.decoders.specs.Feeding.{sizes, tables, sizesOf, cleared, gate, closed, Out, out, pushed, ended}
 use Rattle.decoders.specs.Needs.{headTold}
-use Rattle.wrong.proofs.Loads.{computes, hex, apart, kind, former, zeroed, bare, flagged, paying, broken, start, after, left, forged, longer, input, output, item}
+use Rattle.wrong.proofs.Loads.{computes, hex, apart, kind, inputsTold, versionTold, countsSwapped, endsSwapped, former, zeroed, bare, flagged, paying, spending, broken, start, after, left, forged, longer, input, output, item}
 use Rattle.wrong.proofs.Outs.{answer, case, taken, butState, butTaken, butAnswer, butTables, isRefused}
 
 -- what a wrong program gives at a load, and what is promised there, can't be the same
@@ -159,6 +159,36 @@ pub headShown-wrong : Wrong headShown start zeroed flagged
 unfolding computes
 headShown-wrong = apart answer 0 7 refl refl refl
 
+-- ---- head numbers
+
+-- inputs and outputs change places, or version and locktime: the tables would be read with the wrong counts
+abbrev headCounts : State → Tables → List ℕ → Out
+headCounts s t xs = butAnswer (countsSwapped (pushed s t xs .fed .answer)) (pushed s t xs)
+
+pub headCounts-wrong : Wrong headCounts start zeroed paying
+unfolding computes
+headCounts-wrong = apart (λ o. inputsTold (o .fed .answer)) 1 0 refl refl refl
+
+abbrev headEnds : State → Tables → List ℕ → Out
+headEnds s t xs = butAnswer (endsSwapped (pushed s t xs .fed .answer)) (pushed s t xs)
+
+pub headEnds-wrong : Wrong headEnds start zeroed paying
+unfolding computes
+headEnds-wrong = apart (λ o. versionTold (o .fed .answer)) 0 2 refl refl refl
+
+-- ---- the tables are never read back
+
+-- whether an issuance follows is looked up in the input table: what the caller wrote there would turn a spend into an issuance
+abbrev readsBack : State → Tables → List ℕ → Out
+readsBack s t xs = pushed (setIssuance (getD (t .inputs) (20 * s .spot .index + 2) 0 / 2) s) t xs
+
+abbrev written : Tables → Tables
+written t = tables (set (t .inputs) 2 2) (t .outputs) (t .items)
+
+pub readsBack-wrong : Wrong readsBack (after spending) (written (left spending)) (hex "00 ffffffff 00 00000000")
+unfolding computes
+readsBack-wrong = apart case 1 0 refl refl refl
+
 -- ---- ended readings
 
 -- a finished reading clears its tables again: a second look would find nothing
@@ -168,6 +198,15 @@ clearsAgain s t xs = cond (eqb (s .field .stage) 25) (butTables (cleared t) (pus
 pub clearsAgain-wrong : Wrong clearsAgain (after paying) (left paying) []
 unfolding computes
 clearsAgain-wrong = apart (λ o. output 1 (o .tables)) 0 7 refl refl refl
+
+-- nor its item table, where it has no items: what the caller keeps there would be lost
+abbrev clearsItems : State → Tables → List ℕ → Out
+clearsItems s t xs =
+    cond (eqb (s .field .stage) 25 && eqb (s .counts .items) 0) (butTables (tables (t .inputs) (t .outputs) (replicate (length (t .items)) 0)) (pushed s t xs)) (pushed s t xs)
+
+pub clearsItems-wrong : Wrong clearsItems (after bare) former []
+unfolding computes
+clearsItems-wrong = apart (λ o. item 0 (o .tables)) 0 7 refl refl refl
 
 -- a refused reading doesn't set the tables to 0 again: what was written there since would pass for a reading's
 abbrev zeroedOnce : State → Tables → List ℕ → Out

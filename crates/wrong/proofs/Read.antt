@@ -11,7 +11,7 @@ use Rattle.decoders.specs.declared.Answer.the-variants.{Finished, More, Refused
 use Rattle.decoders.specs.Machine.{machine, fresh, fed}
 use Rattle.decoders.specs.Feeding.{tables, sizesOf, cleared, begun, closed, pushed, Whole, readOnce, readStrict}
 use Rattle.decoders.specs.Needs.{headTold}
-use Rattle.wrong.proofs.Loads.{computes, hex, apart, kind, former, bare, flagged, paying, broken, input, output, item}
+use Rattle.wrong.proofs.Loads.{computes, hex, apart, kind, inputsTold, versionTold, countsSwapped, endsSwapped, former, bare, flagged, paying, broken, input, output, item}
 use Rattle.layout.specs.Number.{value, little}
 use Rattle.wrong.proofs.Wholes.{answer, case, taken, gives, butTaken, butAnswer, butTables}
 
@@ -99,6 +99,21 @@ emptyTables t xs = butTables (cleared t) (readOnce t xs)
 pub emptyTables-wrong : Wrong emptyTables former paying
 unfolding computes
 emptyTables-wrong = apart (λ w. output 1 (w .tables)) 0 7 refl refl refl
+
+-- head numbers change places: inputs and outputs, or version and locktime
+abbrev headCounts : Tables → List ℕ → Whole
+headCounts t xs = butAnswer (countsSwapped (readOnce t xs .read .answer)) (readOnce t xs)
+
+pub headCounts-wrong : Wrong headCounts former paying
+unfolding computes
+headCounts-wrong = apart (λ w. inputsTold (w .read .answer)) 1 0 refl refl refl
+
+abbrev headEnds : Tables → List ℕ → Whole
+headEnds t xs = butAnswer (endsSwapped (readOnce t xs .read .answer)) (readOnce t xs)
+
+pub headEnds-wrong : Wrong headEnds former paying
+unfolding computes
+headEnds-wrong = apart (λ w. versionTold (w .read .answer)) 0 2 refl refl refl
 
 -- isn't finished: a cut transaction still wants more
 abbrev unfinished : Tables → List ℕ → Whole
