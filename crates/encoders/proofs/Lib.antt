@@ -1,7 +1,8 @@
 -- Laws that the functions cite.
 --     Judging, Widths                 pass 1: what is refused, and the length
 --     Putting, Rows, Ready, Whole     pass 2: what is put
---     OneOutcome                      what the documents cite
+--     Writes                          what `write` does with pass 1's answer
+--     Theorems, OneOutcome            what the documents cite
 pub mod Judging
 pub mod Widths
 pub mod Putting
@@ -9,4 +10,5 @@ pub mod Rows
 pub mod Ready
 pub mod Whole
 pub mod Writes
+pub mod Theorems
 pub mod OneOutcome

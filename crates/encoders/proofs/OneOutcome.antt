@@ -1,19 +1,19 @@
--- Any two outcomes that a promise allows are equal: the answer, and the output at exit.
-use mathlib.Core.Path.{_≡_, sym, _∙_}
+-- Any two outcomes that a promise allows are equal: the result, and the output at exit. `Post` is the promise itself, as the check reads
+-- it off the function's clauses; it speaks of the lifetimes, the arguments, the result, and the arguments at exit.
+use mathlib.Core.Path.{_≡_, sym, _∙_, ap}
 use mathlib.Core.Bool.{Bool}
-use mathlib.Core.List.{List}
-use Prim.Native.Nat.{ℕ}
-use Rattle.layout.specs.Transaction.{Head}
-use Rattle.layout.specs.Outcome.{Tables}
-use Rattle.layout.specs.Writing.{writtenLength, writing, isFee}
+use denote.Ref.{now}
 use Rattle.encoders.specs.declared.Written.{Written}
-use Rattle.encoders.specs.Answers.{told, Out, outOf, toldOut}
+use Rattle.encoders.specs.Answers.{Out}
+use Rattle.encoders.proofs.write.Reads as write
+use Rattle.encoders.proofs.written_length.Reads as length
+use Rattle.encoders.proofs.is_fee.Reads as fee
 
-pub one-outcome-length : (h : Head) (t : Tables) (source : List ℕ) (a b : Written) → a ≡ told (writtenLength h t source) → b ≡ told (writtenLength h t source) → a ≡ b
-one-outcome-length h t source a b p q = p ∙ sym q
+pub one-outcome-write : (κ : _) (args : _) (r r′ : Written) (exit exit′ : _) → write.Post κ args r exit → write.Post κ args r′ exit′ → (r ≡ r′) × (now (exit .1 .1 .1 .1 .1 .0) ≡ now (exit′ .1 .1 .1 .1 .1 .0))
+one-outcome-write κ args r r′ exit exit′ p q = let e = p ∙ sym q in (ap (λ (x : Out). x .answer) e, ap (λ (x : Out). x .output) e)
 
-pub one-outcome-write : (h : Head) (t : Tables) (source out : List ℕ) (a b : Written) (o p : List ℕ) → outOf a o ≡ toldOut (writing h t source out) → outOf b p ≡ toldOut (writing h t source out) → outOf a o ≡ outOf b p
-one-outcome-write h t source out a b o p e f = e ∙ sym f
+pub one-outcome-length : (κ : _) (args : _) (r r′ : Written) (exit exit′ : _) → length.Post κ args r exit → length.Post κ args r′ exit′ → r ≡ r′
+one-outcome-length κ args r r′ exit exit′ p q = p ∙ sym q
 
-pub one-outcome-fee : (r : List ℕ) (a b : Bool) → a ≡ isFee r → b ≡ isFee r → a ≡ b
-one-outcome-fee r a b p q = p ∙ sym q
+pub one-outcome-fee : (κ : _) (args : _) (r r′ : Bool) (exit exit′ : _) → fee.Post κ args r exit → fee.Post κ args r′ exit′ → r ≡ r′
+one-outcome-fee κ args r r′ exit exit′ p q = p ∙ sym q

@@ -16,7 +16,7 @@ use Rattle.encoders.specs.declared.Written.the-variants.{Done, Refused}
 use Rattle.encoders.specs.Answers.{told, Out, outOf, toldOut}
 use Rattle.encoders.specs.Puts.{Passed}
 
-wrote-of : (v : Verdict) (n : ℕ) → told v ≡ Done n → v ≡ wrote n
+pub wrote-of : (v : Verdict) (n : ℕ) → told v ≡ Done n → v ≡ wrote n
 wrote-of (wrote m) n e = ap (λ (w : Written). elim w [ Done k ↦ wrote k | Refused a b ↦ wrote m ]) e
 wrote-of (unwritten a b) n e = absurd (let z : _≡_ {A = ℕ} 0 1 = ap (λ (w : Written). elim w [ Done k ↦ 1 | Refused a b ↦ 0 ]) e in omega arith)
 

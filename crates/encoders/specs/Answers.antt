@@ -8,10 +8,23 @@ use Rattle.decoders.specs.declared.Head.{Head}
 use Rattle.encoders.specs.declared.Written.{Written}
 use Rattle.encoders.specs.declared.Written.the-variants.{Done, Refused}
 
--- layout's verdictNumber, verdictPlace and verdictLength give 01's number, place and length
+-- document 01's answer of writing as the enum has it
 abbrev pub told : Verdict → Written
 told (wrote n) = Done n
 told (unwritten number place) = Refused number place
+
+-- document 01's number, place and length of the enum's cases. `told` keeps all three: Theorems, `told-verdict`.
+abbrev pub toldNumber : Written → ℕ
+toldNumber (Done n) = 0
+toldNumber (Refused number place) = number
+
+abbrev pub toldPlace : Written → ℕ
+toldPlace (Done n) = 0
+toldPlace (Refused number place) = place
+
+abbrev pub toldLength : Written → ℕ
+toldLength (Done n) = n
+toldLength (Refused number place) = 0
 
 -- head numbers as the layout has them
 abbrev pub headNumbers : Head → transaction.Head
