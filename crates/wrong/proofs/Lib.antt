@@ -4,6 +4,7 @@
 --     Outs, Wholes   parts of what the public functions give
 --     New, Push, End, Read, Strict    one file for each public function of the reader
 --     Small     counts and widths
+--     Write     the writer: write, written_length, is_fee
 pub mod Loads
 pub mod Outs
 pub mod Wholes
@@ -13,3 +14,4 @@ pub mod End
 pub mod Read
 pub mod Strict
 pub mod Small
+pub mod Write
