@@ -8,6 +8,7 @@
 --     write-then-read          what the writer accepts reads back as the same transaction
 --     records-agree            record for record, the numbers agree in all but positions
 --     length-is                the length asked for alone is that of the written bytes
+--     too-long                 2 at 0, where it would be longer than 4,000,000
 --     refused-write-untouched  a refused write leaves the output as it was; written-tail: a success keeps what stands behind
 use Prim.Native.Nat.{ℕ, zero, suc, _+_, _-_, _*_, _/_, _%_, _^_, _<_, _≤_, min}
 use mathlib.Core.Path.{_≡_, refl, sym, _∙_, ap, ap₂, subst}
@@ -317,6 +318,11 @@ length-is h t source n e =
           let f : (faults h t source also unless (leb (length bytes) (length out)) 14 0) ≡ fault 14 0 = ap₂ _also_ (p .0) (ap (λ (b : Bool). unless b 14 0) less) in
           λ j. record { answer = verdict (f j) (length bytes); output = touched (f j) bytes out };
     }
+
+-- 2, at place 0, exactly where tables without a fault would be written too long.
+pub too-long : (h : Head) (t : Tables) (source : List ℕ) → tableFaults h t (length source) ≡ passes → limit < length (writtenBytes h t source) → writtenLength h t source ≡ unwritten 2 0
+unfolding writtenLength faults
+too-long h t source e long = λ j. verdict (e j also unless (lt-leb (length (writtenBytes h t source)) limit long j) 2 0) (length (writtenBytes h t source))
 
 -- A write that is refused for its tables is refused as its length is.
 pub refused-alike : (h : Head) (t : Tables) (source out : List ℕ) (n p : ℕ) → writtenLength h t source ≡ unwritten n p → writing h t source out ≡ record { answer = unwritten n p; output = out }

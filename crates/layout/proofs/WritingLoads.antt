@@ -1,9 +1,11 @@
 -- Writing, computed. Every number told on a right side was worked out from document 01.
 --     everything-back, load-96-back   accepted loads written back, with the output's tail
 --     refusals                        each number that writing gives, by each of its causes, and what is judged first
+--     scattered                       every body from where its own number says
+--     verdicts                        01's number, place and length of each answer
 --     fees                            the fee question
 --     not-read                        what the writer does not read: positions of null fields, records behind the counts, the head's length
-use Prim.Native.Nat.{ℕ}
+use Prim.Native.Nat.{ℕ, zero, suc}
 use mathlib.Core.Path.{_≡_, refl}
 use mathlib.Core.Bool.{true, false}
 use mathlib.Core.List.{List, [], _∷_, _++_, map}
@@ -12,7 +14,7 @@ use Rattle.layout.specs.Number.{bytesOf}
 use Rattle.layout.specs.Outcome.{partial}
 use Rattle.layout.specs.Contents.{Contents, compactBytes, flat, bodyBytes, listBytes, valueBytes, tokenBytes, issuanceBytes, inputBytes, outputBytes, inputWitnessBytes, outputWitnessBytes, witnessesBytes, contentsBytes, confused, all}
 use Rattle.layout.specs.Records.{sum, placed, placedWitnesses, witnessesItems, beside, headOf, tablesOf}
-use Rattle.layout.specs.Writing.{records, body, valueOf, tokenOf, inputOf, outputOf, itemOf, inputWitnessOf, outputWitnessOf, contentsOf, valueRule, zeros₇, issuanceRule, inputWitnessRule, inputRule, tokenRule, outputWitnessRule, outputRule, itemRule, inputFault, inputFaults, ruleFaults, tableFaults, faults, Verdict, wrote, unwritten, over, Written, writtenLength, writing, isFee}
+use Rattle.layout.specs.Writing.{records, body, valueOf, tokenOf, inputOf, outputOf, itemOf, inputWitnessOf, outputWitnessOf, contentsOf, valueRule, zeros₇, issuanceRule, inputWitnessRule, inputRule, tokenRule, outputWitnessRule, outputRule, itemRule, inputFault, inputFaults, ruleFaults, tableFaults, faults, Verdict, wrote, unwritten, over, Written, writtenLength, writing, isFee, verdictNumber, verdictPlace, verdictLength}
 use Rattle.layout.proofs.Loads.{computes, everything, hex, hidden, oneAndOne, sizes, head, tables}
 
 -- Where this is unfolded, writing computes.
@@ -176,6 +178,11 @@ refusals : AsTold (
     -- record after record: the first one's 12 before the second one's 13
     writtenLength (head 2 0 2 0 0 0 0) (tables (set (set (replicate 40 0) 1 1073741824) 22 4) [] []) (hidden 32) gives unwritten 12 0 ∷
     writtenLength (head 2 0 2 0 0 0 0) (tables (set (replicate 40 0) 22 4) [] []) (hidden 32) gives unwritten 13 1 ∷
+    -- inputs before outputs before items before their sum
+    plainly (set in96 1 1073741824) (set out96 0 2) 96 gives unwritten 12 0 ∷
+    writtenLength (head 2 0 0 2 1 0 0) (tables [] (set (replicate 28 0) 14 2) (9 ∷ 9 ∷ [])) [] gives unwritten 13 1 ∷
+    writtenLength (head 2 1 0 0 2 0 0) (tables [] [] (0 ∷ 0 ∷ 9 ∷ 9 ∷ [])) [] gives unwritten 13 1 ∷
+    output′ 12 1 gives unwritten 13 0 ∷
     -- 8, behind every 13
     writtenLength (head 2 1 1 0 0 0 0) (tables (replicate 20 0) [] []) (hidden 32) gives unwritten 8 4 ∷
     writtenLength (head 2 1 1 0 1 0 0) (tables (replicate 20 0) [] (0 ∷ 0 ∷ [])) (hidden 32) gives unwritten 13 1 ∷
@@ -203,6 +210,48 @@ not-read :
     ≡ writing (head 2 0 1 1 0 0 0) (tables in96 out96 []) (hidden 96) (replicate 97 7)
 unfolding writes
 not-read = refl
+
+-- A null asset's position.
+not-read-asset : plainly in96 (set (set out96 0 0) 1 4294967295) 96 ≡ wrote 64
+unfolding writes
+not-read-asset = refl
+
+-- Every body from where its own number says: the source's bytes are 0, 1, 2, .. and no two bodies stand as they are written. The
+-- bytes were put together from 01's layout by hand.
+abbrev counting : ℕ → ℕ → List ℕ
+counting zero b = []
+counting (suc n) b = b ∷ counting n (suc b)
+
+scattered :
+    writing (head 16909060 1 1 1 2 168496141 0) (tables
+    (1 ∷ 5 ∷ 3 ∷ 40 ∷ 3 ∷ 4294967293 ∷ 60 ∷ 8 ∷ 0 ∷ 0 ∷ 9 ∷ 0 ∷ 0 ∷ 33 ∷ 2 ∷ 35 ∷ 1 ∷ 0 ∷ 1 ∷ 1 ∷ [])
+    (10 ∷ 200 ∷ 9 ∷ 5 ∷ 0 ∷ 0 ∷ 3 ∷ 100 ∷ 20 ∷ 4 ∷ 80 ∷ 1 ∷ 90 ∷ 2 ∷ [])
+    (70 ∷ 2 ∷ 10 ∷ 1 ∷ [])) (counting 250 0) (replicate 306 7)
+    ≡ record {
+      answer = wrote 306;
+      output =
+          4 ∷ 3 ∷ 2 ∷ 1 ∷ 1 ∷ 1 ∷ 1 ∷ 2 ∷ 3 ∷ 4 ∷ 5 ∷ 6 ∷ 7 ∷ 8 ∷ 9 ∷ 10 ∷ 11 ∷ 12 ∷ 13 ∷ 14 ∷ 15 ∷ 16 ∷ 17 ∷ 18 ∷ 19 ∷ 20 ∷ 21 ∷ 22 ∷
+          23 ∷ 24 ∷ 25 ∷ 26 ∷ 27 ∷ 28 ∷ 29 ∷ 30 ∷ 31 ∷ 32 ∷ 5 ∷ 0 ∷ 0 ∷ 192 ∷ 3 ∷ 40 ∷ 41 ∷ 42 ∷ 253 ∷ 255 ∷ 255 ∷ 255 ∷ 60 ∷ 61 ∷ 62 ∷
+          63 ∷ 64 ∷ 65 ∷ 66 ∷ 67 ∷ 68 ∷ 69 ∷ 70 ∷ 71 ∷ 72 ∷ 73 ∷ 74 ∷ 75 ∷ 76 ∷ 77 ∷ 78 ∷ 79 ∷ 80 ∷ 81 ∷ 82 ∷ 83 ∷ 84 ∷ 85 ∷ 86 ∷ 87 ∷
+          88 ∷ 89 ∷ 90 ∷ 91 ∷ 92 ∷ 93 ∷ 94 ∷ 95 ∷ 96 ∷ 97 ∷ 98 ∷ 99 ∷ 100 ∷ 101 ∷ 102 ∷ 103 ∷ 104 ∷ 105 ∷ 106 ∷ 107 ∷ 108 ∷ 109 ∷ 110 ∷
+          111 ∷ 112 ∷ 113 ∷ 114 ∷ 115 ∷ 116 ∷ 117 ∷ 118 ∷ 119 ∷ 120 ∷ 121 ∷ 122 ∷ 123 ∷ 8 ∷ 125 ∷ 126 ∷ 127 ∷ 128 ∷ 129 ∷ 130 ∷ 131 ∷
+          132 ∷ 133 ∷ 134 ∷ 135 ∷ 136 ∷ 137 ∷ 138 ∷ 139 ∷ 140 ∷ 141 ∷ 142 ∷ 143 ∷ 144 ∷ 145 ∷ 146 ∷ 147 ∷ 148 ∷ 149 ∷ 150 ∷ 151 ∷ 152 ∷
+          153 ∷ 154 ∷ 155 ∷ 156 ∷ 9 ∷ 158 ∷ 159 ∷ 160 ∷ 161 ∷ 162 ∷ 163 ∷ 164 ∷ 165 ∷ 166 ∷ 167 ∷ 168 ∷ 169 ∷ 170 ∷ 171 ∷ 172 ∷ 173 ∷
+          174 ∷ 175 ∷ 176 ∷ 177 ∷ 178 ∷ 179 ∷ 180 ∷ 181 ∷ 182 ∷ 183 ∷ 184 ∷ 185 ∷ 186 ∷ 187 ∷ 188 ∷ 189 ∷ 1 ∷ 10 ∷ 201 ∷ 202 ∷ 203 ∷
+          204 ∷ 205 ∷ 206 ∷ 207 ∷ 208 ∷ 209 ∷ 210 ∷ 211 ∷ 212 ∷ 213 ∷ 214 ∷ 215 ∷ 216 ∷ 217 ∷ 218 ∷ 219 ∷ 220 ∷ 221 ∷ 222 ∷ 223 ∷ 224 ∷
+          225 ∷ 226 ∷ 227 ∷ 228 ∷ 229 ∷ 230 ∷ 231 ∷ 232 ∷ 9 ∷ 6 ∷ 7 ∷ 8 ∷ 9 ∷ 10 ∷ 11 ∷ 12 ∷ 13 ∷ 14 ∷ 15 ∷ 16 ∷ 17 ∷ 18 ∷ 19 ∷ 20 ∷ 21
+          ∷ 22 ∷ 23 ∷ 24 ∷ 25 ∷ 26 ∷ 27 ∷ 28 ∷ 29 ∷ 30 ∷ 31 ∷ 32 ∷ 33 ∷ 34 ∷ 35 ∷ 36 ∷ 37 ∷ 3 ∷ 101 ∷ 102 ∷ 103 ∷ 104 ∷ 105 ∷ 106 ∷ 107
+          ∷ 108 ∷ 109 ∷ 110 ∷ 111 ∷ 112 ∷ 113 ∷ 114 ∷ 115 ∷ 116 ∷ 117 ∷ 118 ∷ 119 ∷ 120 ∷ 121 ∷ 122 ∷ 123 ∷ 124 ∷ 125 ∷ 126 ∷ 127 ∷ 128
+          ∷ 129 ∷ 130 ∷ 131 ∷ 132 ∷ 4 ∷ 20 ∷ 21 ∷ 22 ∷ 23 ∷ 13 ∷ 12 ∷ 11 ∷ 10 ∷ 2 ∷ 33 ∷ 34 ∷ 1 ∷ 35 ∷ 1 ∷ 2 ∷ 70 ∷ 71 ∷ 1 ∷ 1 ∷ 10 ∷ 1
+          ∷ 80 ∷ 2 ∷ 90 ∷ 91 ∷ [];
+    }
+unfolding writes
+scattered = refl
+
+-- ---- 01's number, place and length of each answer
+
+verdicts : map verdictNumber (wrote 5 ∷ unwritten 13 2 ∷ []) ++ (map verdictPlace (wrote 5 ∷ unwritten 13 2 ∷ []) ++ map verdictLength (wrote 5 ∷ unwritten 13 2 ∷ [])) ≡ 0 ∷ 13 ∷ 0 ∷ 2 ∷ 5 ∷ 0 ∷ []
+verdicts = refl
 
 -- ---- the fee question
 
