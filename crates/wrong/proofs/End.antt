@@ -84,6 +84,14 @@ pub atZero-wrong : Wrong atZero (after (take 4 bare)) zeroed
 unfolding computes
 atZero-wrong = apart (λ o. placed (o .fed .answer)) 0 4 refl refl refl
 
+-- gives 2 where more is wanted: a cut message would look too long
+abbrev givesTwo : State → Tables → Out
+givesTwo s t = closed (cond (leb 25 (s .field .stage)) s (refuse 2 (s .taken) s)) 0 t
+
+pub givesTwo-wrong : Wrong givesTwo (after (take 4 bare)) zeroed
+unfolding computes
+givesTwo-wrong = apart answer 2 1 refl refl refl
+
 -- answers 1 and lets the reading go on: a refused reading could be finished later
 abbrev goesOn : State → Tables → Out
 goesOn s t = out s 0 (ended s t .fed .answer) (ended s t .tables)

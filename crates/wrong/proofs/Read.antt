@@ -173,6 +173,16 @@ pub littleEndian-wrong : Wrong littleEndian former fourHundred
 unfolding computes
 littleEndian-wrong = apart (λ w. output 5 (w .tables)) 0 400 refl refl refl
 
+-- an amount enters low half first
+abbrev halvesSwapped : Tables → List ℕ → Whole
+halvesSwapped t xs =
+    let r = readOnce t xs in
+    butTables (tables (r .tables .inputs) (set (set (r .tables .outputs) 4 (output 5 (r .tables))) 5 (output 4 (r .tables))) (r .tables .items)) r
+
+pub halvesSwapped-wrong : Wrong halvesSwapped former fourHundred
+unfolding computes
+halvesSwapped-wrong = apart (λ w. output 5 (w .tables)) 0 400 refl refl refl
+
 -- 8 looks at the inputs' witnesses only: here an output has a surjection proof
 abbrev halfBlind : Tables → List ℕ → Whole
 halfBlind t xs =
