@@ -10,6 +10,8 @@ pub mod Judging
 pub mod Accepted
 pub mod Columns
 pub mod RoundTrips
+pub mod NotRead
+pub mod Bodies
 pub mod Sound
 pub mod Theorems
 pub mod Loads

@@ -104,6 +104,8 @@ refusals : AsTold (
     flagged in103 out103 (100 ∷ 0 ∷ []) gives wrote 103 ∷
     plainly (issuing 2) out96 177 gives wrote 202 ∷
     plainly (issuing 3) out96 177 gives wrote 202 ∷
+    -- two inputs that show the same bytes
+    writtenLength (head 2 0 2 0 0 0 0) (tables (replicate 40 0) [] []) (hidden 32) gives wrote 93 ∷
     -- 10: each count, and before 7
     writtenLength (head 2 0 1 0 0 0 0) (tables (replicate 19 0) [] []) [] gives unwritten 10 0 ∷
     writtenLength (head 2 0 0 1 0 0 0) (tables [] (replicate 13 0) []) [] gives unwritten 10 0 ∷
@@ -144,6 +146,9 @@ refusals : AsTold (
     -- 13: an issuance that passes the source by one; its values
     plainly (issuing 2) out96 149 gives wrote 202 ∷
     plainly (issuing 2) out96 148 gives unwritten 13 0 ∷
+    -- the whole field, though only high and low are used: explicit amount and null keys end at 43 + 64 + 9 + 1 = 117
+    plainly (set (issuing 2) 10 0) out96 117 gives wrote 170 ∷
+    plainly (set (issuing 2) 10 0) out96 116 gives unwritten 13 0 ∷
     issued 7 2 gives unwritten 13 0 ∷
     issued 11 1 gives unwritten 13 0 ∷
     -- 13: the first item's index; proofs and items past the source
