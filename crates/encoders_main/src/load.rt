@@ -62,10 +62,9 @@ fn small_number(n: usize) -> u32 {
 }
 
 // Head numbers of a finished reading.
-fn finished(a: Answer) -> Head {
-    match a {
-        Answer::Finished(head) => head,
-        Answer::More => Head {
+pub(crate) fn finished(a: Answer) -> Head {
+    let Answer::Finished(head) = a else {
+        return Head {
             version: 0,
             flag: 0,
             inputs: 0,
@@ -73,17 +72,9 @@ fn finished(a: Answer) -> Head {
             items: 0,
             locktime: 0,
             bytes: 0,
-        },
-        Answer::Refused(_, _) => Head {
-            version: 0,
-            flag: 0,
-            inputs: 0,
-            outputs: 0,
-            items: 0,
-            locktime: 0,
-            bytes: 0,
-        },
-    }
+        };
+    };
+    head
 }
 
 // So many numbers of a table, bytes of a source, bytes of an output; all if there are less.
@@ -106,6 +97,12 @@ pub(crate) fn room(s: &mut [u8], n: usize) -> &mut [u8] {
         return &mut s[0..n];
     }
     s
+}
+
+fn junk_from(t: &mut [u32], from: usize) {
+    if from < t.len() {
+        trial::fill(&mut t[from..], 4294967295);
+    }
 }
 
 // Each method changes one thing.
@@ -151,6 +148,20 @@ impl Load {
         self
     }
 
+    // Junk in each table from one number on.
+    fn junk(mut self, inputs: usize, outputs: usize, items: usize) -> Load {
+        let mut i = self.inputs;
+        let mut o = self.outputs;
+        let mut n = self.items;
+        junk_from(&mut i, inputs);
+        junk_from(&mut o, outputs);
+        junk_from(&mut n, items);
+        self.inputs = i;
+        self.outputs = o;
+        self.items = n;
+        self
+    }
+
     // How much is lent: numbers of the tables, bytes of the source, bytes of the output.
     fn tables(mut self, inputs: usize, outputs: usize, items: usize) -> Load {
         self.lent.inputs = inputs;
@@ -190,6 +201,7 @@ impl Load {
     pub(crate) fn changed(self, e: Edit) -> Load {
         let letter = e.letter;
         match letter {
+            b'E' => empty(),
             b'F' => full(),
             b'B' => bodies(),
             b'S' => small(),
@@ -200,6 +212,7 @@ impl Load {
             b'f' => self.flag(small_number(e.c)),
             b'h' => self.length(small_number(e.c)),
             b'c' => self.counts(small_number(e.a), small_number(e.b), small_number(e.c)),
+            b'j' => self.junk(e.a, e.b, e.c),
             b'n' => self.tables(e.a, e.b, e.c),
             b's' => self.there(e.c),
             b'r' => self.room(e.c),
@@ -302,6 +315,11 @@ fn bodies() -> Load {
     );
     l.source = s;
     l
+}
+
+// 01's load of 11 bytes.
+fn empty() -> Load {
+    read(b"\x02\x00\x00\x00\x00\x00\x00\x00\x00\x00\x00")
 }
 
 // 01's load of 103 bytes.

@@ -97,3 +97,59 @@ pub(crate) fn line(
     told(alone);
     left(n, out, wanted);
 }
+
+// How many bytes are this one.
+fn count(s: &[u8], b: u8) -> usize {
+    let mut n: usize = 0;
+    let mut k = 0;
+    while k < s.len() {
+        if s[k] == b {
+            n = std::num::wrapping_add_usize(n, 1);
+        }
+        k += 1;
+    }
+    n
+}
+
+fn spaced(b: u8) {
+    trial::text(b" ");
+    trial::number(b as usize);
+}
+
+// The output after a writing from a source that has only s: how many bytes are s, how many still have their mark, and the five bytes at 42.
+fn counted(out: &[u8]) {
+    trial::text(b", from the source ");
+    trial::number(count(out, b's'));
+    trial::text(b", marks ");
+    trial::number(count(out, MARK));
+    trial::text(b", bytes at 42");
+    if 47 <= out.len() {
+        spaced(out[42]);
+        spaced(out[43]);
+        spaced(out[44]);
+        spaced(out[45]);
+        spaced(out[46]);
+    }
+    trial::text(b"\n");
+}
+
+// One input and no output, into an output that is too large to be compared: its bytes are counted.
+pub(crate) fn sums(
+    name: &[u8],
+    head: Head,
+    input: &[u32],
+    items: &[u32],
+    source: &[u8],
+    out: &mut [u8],
+) {
+    let none = [0u32; 0];
+    trial::text(name);
+    trial::text(b" ");
+    fill(out);
+    let w = encoders::write(head, input, &none, items, source, out);
+    told(w);
+    trial::text(b", alone ");
+    let alone = encoders::written_length(head, input, &none, items, source);
+    told(alone);
+    counted(out);
+}
