@@ -36,22 +36,22 @@ pub record Heard (t : Tables) (s : State) (u : Tables) : Type 0 where
 
 -- ---- the fresh start
 
-begun-lengths : (t u : Tables) → u ≡ cleared t → Lengths t u
+pub begun-lengths : (t u : Tables) → u ≡ cleared t → Lengths t u
 begun-lengths t u e = subst (λ (x : Tables). Lengths t x) (sym e) (zero-lengths t)
 
-sizes-alike : (t u : Tables) → Lengths t u → layoutSizes u ≡ layoutSizes t
+pub sizes-alike : (t u : Tables) → Lengths t u → layoutSizes u ≡ layoutSizes t
 sizes-alike t u l = λ i. record { inputs = l .inputs i; outputs = l .outputs i; items = l .items i }
 
-fresh-alike : (t u : Tables) → Lengths t u → begun u ≡ begun t
+pub fresh-alike : (t u : Tables) → Lengths t u → begun u ≡ begun t
 fresh-alike t u l = ap₂ (λ (z : _) (x : Tables). machine (fresh z) x) (λ i. record { inputs = l .inputs i; outputs = l .outputs i; items = l .items i }) (cleared-lengths t u l)
 
 pub fresh-sizes : (t u : Tables) (d : State) → machine d u ≡ begun t → layoutSizes u ≡ layoutSizes t
 fresh-sizes t u d e = sizes-alike t u (begun-lengths t u (ap (λ (m : Machine). m .tables) e))
 
-no-bytes : Bytes []
+pub no-bytes : Bytes []
 no-bytes i = omega arith
 
-pub fresh-heard : (t u : Tables) (d : State) → machine d u ≡ begun t → Heard u d u
+unfoldable pub fresh-heard : (t u : Tables) (d : State) → machine d u ≡ begun t → Heard u d u
 unfolding feeding join
 fresh-heard t u d e =
     let again : machine d u ≡ begun u = e ∙ sym (fresh-alike t u (begun-lengths t u (ap (λ (m : Machine). m .tables) e))) in
@@ -66,19 +66,19 @@ fresh-heard t u d e =
 
 -- ---- one more piece
 
-bytes-append : (xs ys : List ℕ) → Bytes xs → Bytes ys → Bytes (xs ++ ys)
+pub bytes-append : (xs ys : List ℕ) → Bytes xs → Bytes ys → Bytes (xs ++ ys)
 bytes-append [] ys p q i = q i
 bytes-append (x ∷ xs) ys p q zero = p zero
 bytes-append (x ∷ xs) ys p q (suc i) = bytes-append xs ys (λ j. p (suc j)) q i
 
 -- what is known of a call on what was heard
-record Told (t : Tables) (xs : List ℕ) (q : Bytes xs) (n : ℕ) (r : Fed) (v : Tables) : Type 0 where
-  decoder : r .decoder ≡ after t xs q .state
-  taken : r .taken ≡ partial (layoutSizes t) xs .taken - n
-  answer : r .answer ≡ told (partial (layoutSizes t) xs .answer)
-  tables : v ≡ partial (layoutSizes t) xs .tables
+pub record Told (t : Tables) (xs : List ℕ) (q : Bytes xs) (n : ℕ) (r : Fed) (v : Tables) : Type 0 where
+  pub decoder : r .decoder ≡ after t xs q .state
+  pub taken : r .taken ≡ partial (layoutSizes t) xs .taken - n
+  pub answer : r .answer ≡ told (partial (layoutSizes t) xs .answer)
+  pub tables : v ≡ partial (layoutSizes t) xs .tables
 
-called : (t u v : Tables) (s : State) (p : List ℕ) (r : Fed) (h : Heard t s u) (q : Bytes (h .read ++ p)) → outOf r v ≡ pushed s u p → Told t (h .read ++ p) q (partial (layoutSizes t) (h .read) .taken) r v
+pub called : (t u v : Tables) (s : State) (p : List ℕ) (r : Fed) (h : Heard t s u) (q : Bytes (h .read ++ p)) → outOf r v ≡ pushed s u p → Told t (h .read ++ p) q (partial (layoutSizes t) (h .read) .taken) r v
 called t u v s p r h q e =
     let o : outOf r v ≡ _ = e ∙ ap₂ (λ (x : State) (y : Tables). pushed x y p) (h .state) (h .tables) ∙ call-reads t (h .read) (h .bytes) p q in
     record {
@@ -88,60 +88,60 @@ called t u v s p r h q e =
       tables = ap (λ (x : Out). x .tables) o;
     }
 
-state-taken : (t : Tables) (xs : List ℕ) (q : Bytes xs) → after t xs q .state .taken ≡ partial (layoutSizes t) xs .taken
+pub state-taken : (t : Tables) (xs : List ℕ) (q : Bytes xs) → after t xs q .state .taken ≡ partial (layoutSizes t) xs .taken
 state-taken t xs q = reads t xs q .taken ∙ zero-add (readingOf (layoutSizes t) xs .taken)
 
-most : (z : outcome.Sizes) (xs : List ℕ) → partial z xs .taken ≤ length xs
+pub most : (z : outcome.Sizes) (xs : List ℕ) → partial z xs .taken ≤ length xs
 most z xs = of-reading.taken-there (transaction (outcome.roomOf z)) xs
 
 -- ---- the line of an answer
 
-line-follows : (a : layout.Answer Head) (n there : ℕ) → n < there → (a ≡ layout.more → ⊥) → verdictOf (told a) n true ≡ lineOf (outcome.follow (outcome.finish a n) n there)
+pub line-follows : (a : layout.Answer Head) (n there : ℕ) → n < there → (a ≡ layout.more → ⊥) → verdictOf (told a) n true ≡ lineOf (outcome.follow (outcome.finish a n) n there)
 line-follows (layout.finished h) n there l m = rw (lt-ltb n there l)
 line-follows layout.more n there l m = absurd (m refl)
 line-follows (layout.refused k p) n there l m = refl
 
-refused-not : (b : Bool) → b ≡ false → b ≡ true → ⊥
+pub refused-not : (b : Bool) → b ≡ false → b ≡ true → ⊥
 refused-not b f t = let z : _≡_ {A = ℕ} 0 1 = ap (λ (x : Bool). cond x 1 0) (sym f ∙ t) in omega (arith, z)
 
-line-refused : (a : layout.Answer Head) (n there : ℕ) (b : Bool) → isRefused (told a) ≡ true → verdictOf (told a) n b ≡ lineOf (outcome.follow (outcome.finish a n) n there)
+pub line-refused : (a : layout.Answer Head) (n there : ℕ) (b : Bool) → isRefused (told a) ≡ true → verdictOf (told a) n b ≡ lineOf (outcome.follow (outcome.finish a n) n there)
 line-refused (layout.finished h) n there b e = absurd (refused-not false refl e)
 line-refused layout.more n there b e = absurd (refused-not false refl e)
 line-refused (layout.refused k p) n there b e = refl
 
-line-ends : (a : layout.Answer Head) (n : ℕ) → verdictOf (told (outcome.finish a n)) n false ≡ lineOf (outcome.follow (outcome.finish a n) n n)
+pub line-ends : (a : layout.Answer Head) (n : ℕ) → verdictOf (told (outcome.finish a n)) n false ≡ lineOf (outcome.follow (outcome.finish a n) n n)
 line-ends (layout.finished h) n = rw (le-ltb n n (omega arith))
 line-ends layout.more n = refl
 line-ends (layout.refused k p) n = refl
 
-refused-more : (a : layout.Answer Head) → isRefused (told a) ≡ true → a ≡ layout.more → ⊥
+pub refused-more : (a : layout.Answer Head) → isRefused (told a) ≡ true → a ≡ layout.more → ⊥
 refused-more a e m = refused-not false refl (sym (ap (λ (x : layout.Answer Head). isRefused (told x)) m) ∙ e)
 
 -- the strict form's answer, whatever follows a reading that doesn't want more
-strict-stable : (z : outcome.Sizes) (xs ys : List ℕ) → (partial z xs .answer ≡ layout.more → ⊥) → strict z (xs ++ ys) .answer ≡ outcome.follow (outcome.finish (partial z xs .answer) (partial z xs .taken)) (partial z xs .taken) (length (xs ++ ys))
+pub strict-stable : (z : outcome.Sizes) (xs ys : List ℕ) → (partial z xs .answer ≡ layout.more → ⊥) → strict z (xs ++ ys) .answer ≡ outcome.follow (outcome.finish (partial z xs .answer) (partial z xs .taken)) (partial z xs .taken) (length (xs ++ ys))
 strict-stable z xs ys m =
     ap (λ (r : layout.Reading Head). outcome.follow (outcome.finish (r .answer) (r .taken)) (r .taken) (length (xs ++ ys))) (of-layout.stable z xs ys m)
 
 -- ---- a piece
 
 module _ (t u v : Tables) (s : State) (p : List ℕ) (q : Bytes p) (r : Fed) (h : Heard t s u) (e : outOf r v ≡ pushed s u p) where
-  abbrev all : List ℕ
+  abbrev pub all : List ℕ
   all = h .read ++ p
 
-  all-bytes : Bytes all
+  pub all-bytes : Bytes all
   all-bytes = bytes-append (h .read) p (h .bytes) q
 
-  tells : Told t all all-bytes (partial (layoutSizes t) (h .read) .taken) r v
+  pub tells : Told t all all-bytes (partial (layoutSizes t) (h .read) .taken) r v
   tells = called t u v s p r h all-bytes e
 
-  all-length : length all ≡ length (h .read) + length p
+  pub all-length : length all ≡ length (h .read) + length p
   all-length = length-append (h .read) p
 
-  decoder-taken : r .decoder .taken ≡ partial (layoutSizes t) all .taken
+  pub decoder-taken : r .decoder .taken ≡ partial (layoutSizes t) all .taken
   decoder-taken = ap (λ (x : State). x .taken) (tells .decoder) ∙ state-taken t all all-bytes
 
   -- taken entire: it is heard
-  pub heard-on : 1 ≤ length p → length p ≤ r .taken → Heard t (r .decoder) v
+  unfoldable pub heard-on : 1 ≤ length p → length p ≤ r .taken → Heard t (r .decoder) v
   heard-on some entire =
       record {
         read = all;
@@ -157,7 +157,7 @@ module _ (t u v : Tables) (s : State) (p : List ℕ) (q : Bytes p) (r : Fed) (h 
       omega (arith, tells .taken, decoder-taken, ap (λ (x : State). x .taken) (h .state) ∙ state-taken t (h .read) (h .bytes), of-layout.taken-limit (layoutSizes t) all all-bytes)
 
   -- not taken entire: bytes follow a reading that ended
-  pub settled-follows : r .taken < length p → SettledAt (layoutSizes t) (verdictOf (r .answer) (r .decoder .taken) true)
+  unfoldable pub settled-follows : r .taken < length p → SettledAt (layoutSizes t) (verdictOf (r .answer) (r .decoder .taken) true)
   settled-follows short =
       record {
         read = all;
@@ -175,7 +175,7 @@ module _ (t u v : Tables) (s : State) (p : List ℕ) (q : Bytes p) (r : Fed) (h 
       not-more m = omega (arith, less, of-layout.takes-all (layoutSizes t) all m)
 
   -- a refusal
-  pub settled-refused : isRefused (r .answer) ≡ true → SettledAt (layoutSizes t) (verdictOf (r .answer) (r .decoder .taken) false)
+  unfoldable pub settled-refused : isRefused (r .answer) ≡ true → SettledAt (layoutSizes t) (verdictOf (r .answer) (r .decoder .taken) false)
   settled-refused w =
       record {
         read = all;
@@ -191,7 +191,7 @@ module _ (t u v : Tables) (s : State) (p : List ℕ) (q : Bytes p) (r : Fed) (h 
 
 -- ---- the input's end
 
-pub heard-ends : (t u v : Tables) (s : State) (r : Fed) (h : Heard t s u) → outOf r v ≡ ended s u → EndedAt (layoutSizes t) (verdictOf (r .answer) (s .taken) false)
+unfoldable pub heard-ends : (t u v : Tables) (s : State) (r : Fed) (h : Heard t s u) → outOf r v ≡ ended s u → EndedAt (layoutSizes t) (verdictOf (r .answer) (s .taken) false)
 heard-ends t u v s r h e =
     let a = partial (layoutSizes t) (h .read) .answer in
     let n = partial (layoutSizes t) (h .read) .taken in
@@ -207,7 +207,7 @@ heard-ends t u v s r h e =
 
 -- ---- as `listen` has it: t₀ are the tables after the fresh start on t, and l is what `verdict` gave
 
-bytes-take : (n : ℕ) (xs : List ℕ) → Bytes xs → Bytes (take n xs)
+pub bytes-take : (n : ℕ) (xs : List ℕ) → Bytes xs → Bytes (take n xs)
 bytes-take zero xs q i = omega arith
 bytes-take (suc n) [] q i = omega arith
 bytes-take (suc n) (x ∷ xs) q zero = q zero
