@@ -1,5 +1,6 @@
 // The writer, case by case. A line with no colon is a heading. A case is a line: its name, a colon, and what it is given. E, P and S are 01's
-// loads of 11, 96 and 103 bytes, F the transaction of 907 bytes, B the same from a source that has only its bodies. Behind it, what is changed; records and columns count from 0:
+// loads of 11, 96 and 103 bytes, F the transaction of 907 bytes, B the same from a source that has only its bodies. Behind the letter stands
+// what is changed; records and columns count from 0:
 //     i, o, t   a number of an input, output, item record: i2.10=0 is record 2, column 10
 //     c, f, h   the three counts, the flag, the length in bytes
 //     j         junk in the three tables, from these numbers on
@@ -8,6 +9,7 @@
 use crate::load::Edit;
 use crate::load::Load;
 
+// Where the reading of the lines stands: in a name, or among the changes.
 struct Reader {
     load: Load,
     edit: Edit,
@@ -24,7 +26,7 @@ fn begun(letter: u8) -> Edit {
     }
 }
 
-// The number with one digit more.
+// The number with one digit more. A digit's last four bits are its value.
 fn grown(n: usize, digit: u8) -> usize {
     10 * (n % 1_000_000_000) + (digit % 16) as usize
 }
