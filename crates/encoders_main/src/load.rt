@@ -4,7 +4,7 @@ use decoders::Answer;
 use decoders::Head;
 use decoders::TransactionDecoder;
 
-// A change: a letter, and the last three numbers behind it.
+// A change: a letter, and the last three numbers behind it; whether a digit would go on with the last.
 pub(crate) struct Edit {
     pub(crate) letter: u8,
     pub(crate) a: usize,
@@ -32,6 +32,7 @@ pub(crate) struct Load {
     lent: Lent,
 }
 
+// The bytes, and then 0.
 fn spread(s: &[u8]) -> [u8; 907] {
     let mut t = [0u8; 907];
     let mut k = 0;
@@ -241,7 +242,7 @@ impl Load {
     }
 }
 
-// A transaction that is read, to be written back over its own bytes in exact room. Its tables and head numbers stand in decoders_main's stdout.
+// A transaction that is read, to be written back over its own bytes in exact room. What the reader says of it is tried by `decoders_main`.
 fn read(s: &[u8]) -> Load {
     let mut i = [0u32; 60];
     let mut o = [0u32; 56];

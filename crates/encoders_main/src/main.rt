@@ -1,5 +1,5 @@
-// The writer on document 01's loads and rules. Each line was worked out from document 01: the answer of `write`, as number, place and length; that
-// of `written_length`; and what the output holds, every byte of which was marked before.
+// The writer on document 01's loads and rules. Each line was worked out from document 01: the answer of `write`, as number, place and
+// length; that of `written_length`; and what the output holds, every byte of which was marked before.
 mod cases;
 mod load;
 mod long;
@@ -30,25 +30,13 @@ fn fees() {
 
 fn main() {
     cases::loads();
-    cases::null_issuances();
-    cases::flags();
-    cases::empty_witnesses();
-    cases::counts();
-    cases::outpoints();
-    cases::input_prefixes();
-    cases::output_prefixes();
-    cases::amounts();
-    cases::no_issuance();
-    cases::no_witness();
-    cases::no_items();
-    cases::sums();
-    cases::input_ends();
-    cases::output_ends();
-    cases::empty_bodies();
-    cases::far_positions();
-    cases::unread();
-    cases::record_order();
-    cases::order();
+    cases::counts_and_outpoints();
+    cases::prefixes();
+    cases::zeros();
+    cases::witnesses();
+    cases::ends();
+    cases::positions();
+    cases::rest();
     long::many();
     long::lengths();
     long::sources();

@@ -1,5 +1,5 @@
-// One line for a case: what `write` answers, what `written_length` answers, and what the output holds after it. An answer is its number, its place and
-// its length, as 01 has them: 0, 0 and the written length, or the refusal's number, its place, and 0.
+// One line for a case: what `write` answers, what `written_length` answers, and what the output holds after it. An answer is its number, its
+// place and its length, as 01 has them: 0, 0 and the written length, or the refusal's number, its place, and 0.
 use decoders::Head;
 use encoders::Written;
 
