@@ -157,6 +157,19 @@ pub masked-wrong : Wrong masked former coinbase
 unfolding computes
 masked-wrong = apart (λ w. input 1 (w .tables)) 1073741823 4294967295 refl refl refl
 
+-- bit 30 stays in vout: a pegin of output 0 would be one of output 1,073,741,824
+abbrev bitKept : Tables → List ℕ → Whole
+bitKept t xs =
+    let r = readOnce t xs in
+    butTables (tables (set (r .tables .inputs) 1 (value little (take 4 (drop 38 xs)) % 2 ^ 31)) (r .tables .outputs) (r .tables .items)) r
+
+abbrev peggedIn : List ℕ
+peggedIn = hex "02000000 00 01" ++ replicate 32 0xee ++ hex "00000040 00 00000000 00 00000000"
+
+pub bitKept-wrong : Wrong bitKept former peggedIn
+unfolding computes
+bitKept-wrong = apart (λ w. input 1 (w .tables)) 1073741824 0 refl refl refl
+
 -- amounts are read little-endian: 400 would be 10,376,575,016,438,333,440
 abbrev littleEndian : Tables → List ℕ → Whole
 littleEndian t xs =
