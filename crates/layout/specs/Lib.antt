@@ -3,6 +3,9 @@
 --     Layout        what a layout is, and its reading
 --     Transaction   the layout: every field, refusals 2 to 8, every number that enters a table
 --     Outcome       what the caller sees: answer, bytes taken, tables; finishing (1), reading at once, the strict form (9); bearing bytes
+--     Contents      a transaction as what it holds: its bytes, and what is allowed
+--     Records       its head numbers and records
+--     Writing       from head numbers, tables and source to bytes, or a refusal; the fee question
 pub mod Number
 pub mod Layout
 pub mod Transaction
