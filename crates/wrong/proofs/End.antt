@@ -155,6 +155,11 @@ pub ungated-eleven-wrong : Wrong ungated (withField (field 0 3 9 0 0) start) for
 unfolding computes
 ungated-eleven-wrong = apart answer 1 11 refl refl refl
 
+-- nor a field that has all its bytes and was not settled
+pub ungated-whole-wrong : Wrong ungated (withField (field 0 3 4 4 0) start) former
+unfolding computes
+ungated-whole-wrong = apart answer 1 11 refl refl refl
+
 pub ungated-ten-wrong : Wrong ungated start longer
 unfolding computes
 ungated-ten-wrong = apart answer 1 10 refl refl refl
