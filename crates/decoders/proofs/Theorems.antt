@@ -190,6 +190,32 @@ misuse-answer-end s t n p e big =
     (λ g. let m = misuse-untouched-end s t (eqb-false (gate s (sizesOf t)) 0 g) in
     m ∙ ap (λ (k : ℕ). out s 0 (Refused k 0) t) (same-number (gate s (sizesOf t)) n 0 p (sym (ap (λ (x : Out). x .fed .answer) m) ∙ e)))
 
+-- no number above 11 is ever given
+gate-most : (b c : Bool) → cond b (cond c 0 10) 11 ≤ 11
+gate-most true true = omega arith
+gate-most true false = omega arith
+gate-most false c = omega arith
+
+gate-eleven : (s : State) (z : Sizes) → gate s z ≤ 11
+unfolding gate
+gate-eleven s z = gate-most (inRange s) (eqb (s .sizes .inputs) (z .inputs) && eqb (s .sizes .outputs) (z .outputs) && eqb (s .sizes .items) (z .items))
+
+pub number-most : (s : State) (t : Tables) (xs : List ℕ) (n p : ℕ) → Bytes xs → pushed s t xs .fed .answer ≡ Refused n p → n ≤ 11
+unfolding closed
+number-most s t xs n p q e =
+    by-cases (eqb (gate s (sizesOf t)) 0)
+    (λ g. let z = eqb-true (gate s (sizesOf t)) 0 g in
+    omega (arith, refused-small (fed (machine s t) xs .state) n p (fed-range (machine s t) xs q (gate-starts s t (gate s (sizesOf t)) refl z .range)) (sym (ap (λ (x : Out). x .fed .answer) (pushed-open s t xs z)) ∙ e)))
+    (λ g. omega (arith, gate-eleven s (sizesOf t), same-number (gate s (sizesOf t)) n 0 p (sym (ap (λ (x : Out). x .fed .answer) (misuse-untouched s t xs (eqb-false (gate s (sizesOf t)) 0 g))) ∙ e)))
+
+pub number-most-end : (s : State) (t : Tables) (n p : ℕ) → ended s t .fed .answer ≡ Refused n p → n ≤ 11
+unfolding closed
+number-most-end s t n p e =
+    by-cases (eqb (gate s (sizesOf t)) 0)
+    (λ g. let z = eqb-true (gate s (sizesOf t)) 0 g in
+    omega (arith, refused-small (finish s) n p (finish-closes s (gate-starts s t (gate s (sizesOf t)) refl z .range)) (sym (ap (λ (x : Out). x .fed .answer) (ended-open s t z)) ∙ e)))
+    (λ g. omega (arith, gate-eleven s (sizesOf t), same-number (gate s (sizesOf t)) n 0 p (sym (ap (λ (x : Out). x .fed .answer) (misuse-untouched-end s t (eqb-false (gate s (sizesOf t)) 0 g))) ∙ e)))
+
 -- 11 is never given to a state that a call with another answer returned
 range-from : (s : State) (t : Tables) (o : Out) → (gate s (sizesOf t) ≡ 11 → o .fed .answer ≡ Refused 11 0) → (o .fed .answer ≡ Refused 11 0 → ⊥) → inRange s ≡ true
 range-from s t o f h = by-cases (inRange s) (λ e. e) (λ e. absurd (h (f (eleven-first s (sizesOf t) e))))
@@ -247,7 +273,7 @@ sizes-kept s t xs =
     (λ g. ap (λ (x : Out). x .fed .decoder .sizes) (misuse-untouched s t xs (eqb-false (gate s (sizesOf t)) 0 g)))
 
 pub sizes-kept-end : (s : State) (t : Tables) → ended s t .fed .decoder .sizes ≡ s .sizes
-unfolding closed finish refuse
+unfolding closed finish
 sizes-kept-end s t =
     by-cases (eqb (gate s (sizesOf t)) 0)
     (λ g. ap (λ (x : Out). x .fed .decoder .sizes) (ended-open s t (eqb-true (gate s (sizesOf t)) 0 g)) ∙ by-cases (leb 25 (s .field .stage)) (λ l. rw l) (λ l. rw l))
@@ -447,11 +473,11 @@ unfolding closed
 close-twice s n t = by-cases (eqb (s .field .stage) 26) (λ e. rw e (ap (λ (x : Tables). out s 0 (told (answerOf s)) x) (cleared-lengths t (cleared t) (zero-lengths t)))) (λ e. rw e)
 
 finish-over : (s : State) → 25 ≤ finish s .field .stage
-unfolding finish refuse
+unfolding finish
 finish-over s = by-cases (leb 25 (s .field .stage)) (λ l. rw l (leb-true 25 (s .field .stage) l)) (λ l. rw l (omega arith))
 
 finish-sizes : (s : State) → finish s .sizes ≡ s .sizes
-unfolding finish refuse
+unfolding finish
 finish-sizes s = by-cases (leb 25 (s .field .stage)) (λ l. rw l) (λ l. rw l)
 
 -- whatever is fed next, and finishing too, takes nothing and gives the same answer and tables

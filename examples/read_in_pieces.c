@@ -1,0 +1,35 @@
+/* Reads a transaction from a file in pieces, as a radio link brings them, and prints answer, place, inputs, outputs and items. */
+#include <stdio.h>
+#include <takzulit.h>
+
+#define TABLES inputs, 64 * TAKZULIT_INPUT_WIDTH, outputs, 64 * TAKZULIT_OUTPUT_WIDTH, items, 256 * TAKZULIT_ITEM_WIDTH
+
+static uint32_t inputs[64 * TAKZULIT_INPUT_WIDTH], outputs[64 * TAKZULIT_OUTPUT_WIDTH], items[256 * TAKZULIT_ITEM_WIDTH];
+
+int main(int argc, char **argv) {
+    size_t state[TAKZULIT_STATE], answer[TAKZULIT_ANSWER], n;
+    uint32_t head[TAKZULIT_HEAD];
+    uint8_t piece[1400];
+    FILE *file = argc == 2 ? fopen(argv[1], "rb") : NULL;
+    if (file == NULL) {
+        fprintf(stderr, "usage: %s FILE (one that can be read)\n", argv[0]);
+        return 2;
+    }
+    takzulit_new(state, TABLES);
+    do {
+        n = fread(piece, 1, sizeof piece, file);
+        if (n > 0)
+            takzulit_push_bytes(state, piece, n, TABLES, head, answer);
+        else
+            takzulit_end(state, TABLES, head, answer);
+    } while (answer[TAKZULIT_NUMBER] == TAKZULIT_MORE);
+    if (ferror(file)) {
+        fprintf(stderr, "%s could not be read\n", argv[1]);
+        return 2;
+    }
+    fclose(file);
+    printf("%zu %zu %u %u %u\n", answer[TAKZULIT_NUMBER], answer[TAKZULIT_PLACE], head[2], head[3], head[4]);
+    if (answer[TAKZULIT_NUMBER] == TAKZULIT_FINISHED && answer[TAKZULIT_TAKEN] < n)
+        printf("%zu bytes of the last piece follow it\n", n - answer[TAKZULIT_TAKEN]);
+    return answer[TAKZULIT_NUMBER] != TAKZULIT_FINISHED;
+}
