@@ -246,3 +246,8 @@ fn written(answer: [usize; raw::ANSWER]) -> Result<usize, Refusal> {
 pub fn is_fee(output: &[u32; OUTPUT_WIDTH]) -> bool {
     raw::is_fee(output)
 }
+
+// The README's code is compiled and run as this text's examples are.
+#[cfg(doctest)]
+#[doc = include_str!("../../../README.md")]
+struct Readme;
