@@ -1,0 +1,2 @@
+-- Laws that the functions cite.
+pub mod Counting
