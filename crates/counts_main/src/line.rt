@@ -84,15 +84,14 @@ fn is_refused(s: &[u8], number: usize, place: usize) -> bool {
     }
 }
 
-fn spelled(n: usize, digits: &[u8]) -> bool {
-    let mut t = [0u8; 20];
-    let k = io::decimal(n as u64, &mut t);
-    check::same(&t[..k], digits)
-}
-
+// Whether s reads as the value with these digits.
 fn is_value(s: &[u8], digits: &[u8]) -> bool {
     match encode::read_count(s) {
-        Count::Value(n) => spelled(n, digits),
+        Count::Value(n) => {
+            let mut t = [0u8; 20];
+            let k = io::decimal(n as u64, &mut t);
+            check::same(&t[..k], digits)
+        }
         Count::Refused(_, _) => false,
     }
 }

@@ -20,33 +20,24 @@ fn number(n: usize) {
     io::print_decimal(STDOUT_FILENO, n as u64);
 }
 
-fn more(n: usize) -> usize {
-    std::num::wrapping_add_usize(n, 1)
-}
-
-fn differs(t: Tally, s: &[u8]) -> Tally {
-    text(s);
-    text(b"\n");
-    let mut next = t;
-    next.differences = more(t.differences);
-    next
-}
-
 // The tally with one line more.
 fn counted(t: Tally, s: &[u8]) -> Tally {
     let mut next = t;
     if line::is_longer(s) {
-        next.longer = more(t.longer);
+        next.longer = std::num::wrapping_add_usize(t.longer, 1);
     } else {
-        next.values = more(t.values);
+        next.values = std::num::wrapping_add_usize(t.values, 1);
     }
     if line::agrees(s) {
         return next;
     }
-    differs(next, s)
+    text(s);
+    text(b"\n");
+    next.differences = std::num::wrapping_add_usize(t.differences, 1);
+    next
 }
 
-// Each line ends with a line feed; what stands behind the last one differs.
+// What stands behind the last line feed is a line too.
 fn lines(s: &[u8]) -> Tally {
     let mut t = Tally {
         values: 0,
@@ -63,7 +54,7 @@ fn lines(s: &[u8]) -> Tally {
         k += 1;
     }
     if start < s.len() {
-        t = differs(t, &s[start..]);
+        t = counted(t, &s[start..]);
     }
     t
 }

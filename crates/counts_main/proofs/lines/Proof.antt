@@ -5,7 +5,6 @@ use mathlib.Core.Logic.{⊎-elim}
 use Rattle.counts_main.proofs.lines.Statement.{statement}
 use Rattle.counts_main.proofs.lines.Tie as tie
 use Rattle.counts_main.proofs.counted.Reads as counted-reads
-use Rattle.counts_main.proofs.differs.Reads as differs-reads
 
 abbrev Inv-loop : tie.InvT-loop
 Inv-loop s t₀ start₀ k₀ t start k = (start ≤ k) × (k ≤ length s)
@@ -43,17 +42,17 @@ loop-less c = search needs
 loop-again : tie.Need-loop-again Inv-loop μ-loop
 loop-again c = ⊎-elim (λ w. search needs) (λ w. search needs) (c .if1 .came)
 
-sub-differs : tie.Need-sub-differs Inv-loop μ-loop
-sub-differs c = search needs
+sub-counted-2 : tie.Need-sub-counted-2 Inv-loop μ-loop
+sub-counted-2 c = search needs
 
-part-differs-start : tie.Need-part-differs-start Inv-loop μ-loop
-part-differs-start c = search needs
+part-counted-start-2 : tie.Need-part-counted-start-2 Inv-loop μ-loop
+part-counted-start-2 c = search needs
 
-part-differs-end : tie.Need-part-differs-end Inv-loop μ-loop
-part-differs-end c = search needs
+part-counted-end-2 : tie.Need-part-counted-end-2 Inv-loop μ-loop
+part-counted-end-2 c = search needs
 
-differs-requires : tie.Need-differs-requires Inv-loop μ-loop
-differs-requires c κs = search needs
+counted-requires-2 : tie.Need-counted-requires-2 Inv-loop μ-loop
+counted-requires-2 c κs = search needs
 
 returns : tie.Need-returns Inv-loop μ-loop
 returns c = search needs
@@ -77,9 +76,9 @@ lines-spec =
     add-k
     loop-less
     loop-again
-    sub-differs
-    part-differs-start
-    part-differs-end
-    differs-requires
+    sub-counted-2
+    part-counted-start-2
+    part-counted-end-2
+    counted-requires-2
     returns
     returns-2)
