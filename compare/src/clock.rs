@@ -5,7 +5,6 @@ use crate::generate::{Made, Random};
 use crate::paper::*;
 use crate::plain;
 use crate::slips::Slip;
-use std::hint::black_box;
 use std::time::Instant;
 
 /// A sound transaction and tables that just hold it.
@@ -86,6 +85,14 @@ fn timed(loads: &[Load], rounds: usize, read: impl Fn(&Load, &mut Tables)) -> f6
             started.elapsed().as_nanos() as f64
         })
         .fold(f64::INFINITY, f64::min)
+}
+
+/// Hides a value from the optimiser, so that what is timed is not left out. (`std::hint::black_box` is younger than the
+/// compiler of Debian 12.)
+fn black_box<T>(value: T) -> T {
+    let value = std::mem::ManuallyDrop::new(value);
+    // SAFETY: read once, and not dropped where it was.
+    unsafe { std::ptr::read_volatile(&*value) }
 }
 
 fn plainly(load: &Load, tables: &mut Tables) {

@@ -157,8 +157,9 @@ fn replace(bytes: &mut Vec<u8>, span: Span, number: u64, width: usize) {
 
 /// The same number with more further bytes than it needs.
 fn lengthen_a_form(bytes: &mut Vec<u8>, made: &Made, random: &mut Random) {
-    let Some(span) = some_span(made, random, |span| matches!(span.kind, Kind::Count | Kind::Length)) else {
-        return;
+    let span = match some_span(made, random, |span| matches!(span.kind, Kind::Count | Kind::Length)) {
+        Some(span) => span,
+        None => return,
     };
     let number = number_at(bytes, span);
     // The numbers just below each form's least one show an error by one.
@@ -176,8 +177,9 @@ fn spoil_a_prefix(bytes: &mut [u8], made: &Made, random: &mut Random) {
 
 /// A length that is huge, wraps, or ends just about the limit; in any form.
 fn change_a_length(bytes: &mut Vec<u8>, made: &Made, random: &mut Random) {
-    let Some(span) = some_span(made, random, |span| span.kind == Kind::Length) else {
-        return;
+    let span = match some_span(made, random, |span| span.kind == Kind::Length) {
+        Some(span) => span,
+        None => return,
     };
     let old = number_at(bytes, span);
     let width = random.choose(&[2, 4, 8, 8]);
@@ -205,8 +207,9 @@ fn change_a_length(bytes: &mut Vec<u8>, made: &Made, random: &mut Random) {
 
 /// A count beside the true one, or far from it; in any form.
 fn change_a_count(bytes: &mut Vec<u8>, made: &Made, random: &mut Random) {
-    let Some(span) = some_span(made, random, |span| span.kind == Kind::Count) else {
-        return;
+    let span = match some_span(made, random, |span| span.kind == Kind::Count) {
+        Some(span) => span,
+        None => return,
     };
     let old = number_at(bytes, span);
     let number = random.choose(&[
@@ -253,11 +256,13 @@ fn nullify(bytes: &mut [u8], made: &Made, random: &mut Random) {
 
 /// Lengthens one body so that a field behind it, or the body itself, lies at the limit.
 fn near_the_limit(case: &mut Case, made: &Made, sea: &mut Sea, random: &mut Random) {
-    let Some(body) = (0..made.spans.len()).find(|&at| made.spans[at].kind == Kind::Body) else {
-        return;
+    let body = match (0..made.spans.len()).find(|&at| made.spans[at].kind == Kind::Body) {
+        Some(body) => body,
+        None => return,
     };
-    let Some(target) = target_behind(made.spans[body], made, random) else {
-        return;
+    let target = match target_behind(made.spans[body], made, random) {
+        Some(target) => target,
+        None => return,
     };
     let mut bytes = made.bytes.clone();
     let mut target_width = target.width;

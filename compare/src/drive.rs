@@ -210,7 +210,7 @@ pub fn check_reading(case: &Case, reading: &mut Reading, bench: &mut Bench, slip
         check_at_once::<Archive>(&case.bytes, case.sizes, reading, bench, slip)?;
         check_feeding::<Archive>(case, reading, bench, slip)?;
     }
-    if case.whims.is_multiple_of(128) && case.bytes.len() < 600 {
+    if case.whims % 128 == 0 && case.bytes.len() < 600 {
         check_every_truncation(case, reading, bench, slip)?;
     }
     Ok(())
@@ -577,9 +577,9 @@ impl Run {
 
     /// Of a finished reading, the tables go to the writer: as they are, and damaged.
     fn write(&mut self, random: &mut Random) -> Result<(), (Difference, Found)> {
-        let Ending::Finished(_) = self.reading.ending else {
+        if !matches!(self.reading.ending, Ending::Finished(_)) {
             return Ok(());
-        };
+        }
         // Long ones cost a thousand times more.
         if self.case.bytes.len() > 100_000 && !random.once_in(16) {
             return Ok(());

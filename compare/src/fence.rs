@@ -43,7 +43,8 @@ pub fn fenced<T>(bytes: &[u8], call: impl FnOnce(&[u8]) -> T) -> T {
     if bytes.len() > LENGTH {
         return call(bytes);
     }
-    FENCE.with_borrow_mut(|fence| {
+    FENCE.with(|fence| {
+        let fence = fence.borrow_mut();
         // SAFETY: the mapping has LENGTH bytes before the fence, and is borrowed for the whole call.
         let copy = unsafe {
             let at = fence.start.add(LENGTH - bytes.len());

@@ -39,7 +39,7 @@ pub fn run(seed: u64, from: u64, count: u64, time: Option<Duration>) -> bool {
             workshop.print();
             return false;
         }
-        if number % 256 == 0 && until.is_some_and(|until| Instant::now() > until) {
+        if number % 256 == 0 && until.map_or(false, |until| Instant::now() > until) {
             break;
         }
     }

@@ -79,9 +79,12 @@ fn main() -> ExitCode {
 
 /// Compares until the count or the time is used up, or a difference shows.
 fn run(options: &Options) -> bool {
-    let Some(slip) = Slip::numbered(options.slip) else {
-        eprintln!("there are {} slips", SLIPS.len());
-        return false;
+    let slip = match Slip::numbered(options.slip) {
+        Some(slip) => slip,
+        None => {
+            eprintln!("there are {} slips", SLIPS.len());
+            return false;
+        }
     };
     let count = options.count.unwrap_or(if options.seconds.is_some() { u64::MAX } else { DEFAULT_COUNT });
     let until = options.seconds.map(|seconds| Instant::now() + Duration::from_secs(seconds));
@@ -98,7 +101,7 @@ fn run(options: &Options) -> bool {
             report(difference, found, slip);
             return false;
         }
-        if number % 256 == 0 && until.is_some_and(|until| Instant::now() > until) {
+        if number % 256 == 0 && until.map_or(false, |until| Instant::now() > until) {
             break;
         }
     }
@@ -145,9 +148,12 @@ fn slips(options: &Options) -> bool {
 
 /// Judges the program that reads standard input.
 fn program(options: &Options) -> bool {
-    let Some(path) = &options.path else {
-        eprintln!("program wants --path");
-        return false;
+    let path = match &options.path {
+        Some(path) => path,
+        None => {
+            eprintln!("program wants --path");
+            return false;
+        }
     };
     let count = options.count.unwrap_or(if options.seconds.is_some() { u64::MAX } else { 5_000 });
     compare::program::run(path, options.seed, options.from, count, options.seconds.map(Duration::from_secs))

@@ -525,7 +525,7 @@ impl<'a> Feeding<'a> {
         if let Some(misuse) = self.misuse(lent) {
             return misuse;
         }
-        if self.slip.is(Slip::FinishAlwaysOne) && self.ended.is_some_and(|ended| ended.answer != FINISHED) {
+        if self.slip.is(Slip::FinishAlwaysOne) && self.ended.map_or(false, |ended| ended.answer != FINISHED) {
             self.ended = None;
         }
         if self.ended.is_some() {

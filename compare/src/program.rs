@@ -47,7 +47,7 @@ pub fn run(path: &str, seed: u64, from: u64, count: u64, time: Option<Duration>)
             return false;
         }
         damage::retire(&mut case, &mut sea);
-        if until.is_some_and(|until| Instant::now() > until) {
+        if until.map_or(false, |until| Instant::now() > until) {
             break;
         }
     }

@@ -302,7 +302,7 @@ impl Slip {
     }
 
     pub fn records_held(self, size: usize, width: usize) -> usize {
-        self.pick(Slip::CountsAgainstAnyRecord, size.div_ceil(width), size / width)
+        self.pick(Slip::CountsAgainstAnyRecord, (size + width - 1) / width, size / width)
     }
 
     pub fn first_index_excused(self, record: &[u32]) -> bool {

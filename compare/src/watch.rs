@@ -29,7 +29,7 @@ pub fn start(seed: u64) {
 /// Called before each case.
 pub fn case(number: u64) {
     CASE.store(number, Ordering::Relaxed);
-    if number.is_multiple_of(256) {
+    if number % 256 == 0 {
         // SAFETY: has no memory to do with.
         unsafe { alarm(PATIENCE) };
     }

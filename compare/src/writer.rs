@@ -107,17 +107,17 @@ impl Sums {
 
     /// `more` starts at the issuance position.
     fn issuance(&mut self, more: &[u32]) -> bool {
-        let (Some(amount), Some(keys)) = (width_of_value(&more[1..4]), width_of_value(&more[4..7])) else {
-            return false;
+        let (amount, keys) = match (width_of_value(&more[1..4]), width_of_value(&more[4..7])) {
+            (Some(amount), Some(keys)) => (amount, keys),
+            _ => return false,
         };
         self.length += 64 + amount + keys;
         self.within(more[0], 64 + amount + keys)
     }
 
     fn input_witness(&mut self, numbers: &[u32]) -> bool {
-        let [amount, amount_length, keys, keys_length, index, script_items, pegin_items] = *numbers else {
-            unreachable!("seven witness numbers");
-        };
+        let seven: [u32; 7] = numbers.try_into().expect("seven witness numbers");
+        let [amount, amount_length, keys, keys_length, index, script_items, pegin_items] = seven;
         if !self.witness {
             return numbers.iter().all(|&number| number == 0);
         }
@@ -131,8 +131,9 @@ impl Sums {
     fn output(&mut self, record: &[u32; OUTPUT]) -> bool {
         let [asset, asset_at, value, value_at, high, low, nonce, nonce_at, script, script_length, witness @ ..] =
             record;
-        let Some(width) = width_of_value(&[*value, *high, *low]) else {
-            return false;
+        let width = match width_of_value(&[*value, *high, *low]) {
+            Some(width) => width,
+            None => return false,
         };
         self.length += width;
         matches!(asset, 0 | 1 | 10 | 11)

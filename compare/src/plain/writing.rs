@@ -214,11 +214,13 @@ impl Scribe<'_> {
 
     fn issuance_breach(&self, record: &[u32]) -> Breach {
         let (amount, keys) = (record[7], record[10]);
-        let Some(amount_width) = value_width(amount) else {
-            return Some("13 input: amount prefix not listed");
+        let amount_width = match value_width(amount) {
+            Some(amount_width) => amount_width,
+            None => return Some("13 input: amount prefix not listed"),
         };
-        let Some(keys_width) = value_width(keys) else {
-            return Some("13 input: keys prefix not listed");
+        let keys_width = match value_width(keys) {
+            Some(keys_width) => keys_width,
+            None => return Some("13 input: keys prefix not listed"),
         };
         if amount != 1 && !all_zero(&record[8..10]) && !self.slip.is(Slip::HalvesUnjudged) {
             return Some("13 input: amount halves without prefix 1");
