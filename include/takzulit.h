@@ -1,23 +1,38 @@
 /*
- * Takzulit: reads and writes Elements transactions as document 01 lays them out. Every function is proved to keep what is said of it here,
- * for whatever stands in the arrays, tables and bytes that are lent. None of them allocates, stores a pointer, or fails.
+ * Takzulit: reads and writes Elements transactions as document 01 lays them out. What is said of each function here in words, the function of
+ * crates/takzulit/src/lib.rt promises, and is proved to keep, for whatever stands in the arrays, tables and bytes that are lent; that the two
+ * say the same is read and run, not proved. No function allocates, keeps a pointer or stops the program, and each returns. The archive is for
+ * x86-64 Linux.
  *
  * What the caller owes, and no function can test:
  *   - each pointer points to as many numbers as its length says (or as its array has), is aligned for them, and is not null, even where
  *     the length is 0;
  *   - what is lent for writing overlaps nothing else that is lent to the same call;
- *   - nobody else reads or writes it until the call returns.
+ *   - until the call returns nobody else reads or writes what is lent for writing, and nobody writes what is lent for reading.
  *
- * Tables. An input record has 20 numbers, an output record 14, an item record 2. A table holds as many whole records as fit; a length is in
- * numbers, not records.
+ * Tables. A length is in numbers, not records, and a table holds as many whole records as fit (the item table at most 4,294,967,295). A
+ * position counts from the transaction's first byte. A field that is not there has 0. The numbers of a record, by their place in it:
+ *   input, 20   0 txid's position, 1 vout, 2 flags (1 pegin, 2 issuance, 3 both), 3 script's position, 4 its length, 5 sequence,
+ *               6 issuance's position, 7 amount's prefix, 8 high half, 9 low half, 10 keys' prefix, 11 high half, 12 low half,
+ *               13 amount proof's position, 14 its length, 15 keys proof's position, 16 its length,
+ *               17 the number of its first item, 18 how many script items, 19 and then how many pegin items
+ *   output, 14  0 asset's prefix, 1 its position, 2 value's prefix, 3 its position, 4 high half, 5 low half, 6 nonce's prefix,
+ *               7 its position, 8 script's position, 9 its length, 10 surjection proof's position, 11 its length,
+ *               12 range proof's position, 13 its length
+ *   item, 2     0 position, 1 length; in the order of the bytes
+ * Prefix 0 is null. A value of prefix 1 is explicit, and its halves are 0 with any other; behind all other prefixes stand 32 bytes. An issuance
+ * is blinding nonce (32), entropy (32), amount, keys; the last two with their prefixes have 1, 9 or 33 bytes each.
  *
  * The answer, size_t[3]:
  *   [TAKZULIT_NUMBER]  TAKZULIT_FINISHED, TAKZULIT_MORE, or the number of a refusal, 1 to 14;
- *   [TAKZULIT_PLACE]   the refusal's place; 0 otherwise. Reading: counted in bytes from the start. Writing: the record's number for 6, 12 and 13;
- *   [TAKZULIT_TAKEN]   reading: how many bytes this call took. Writing (TAKZULIT_LENGTH): how many bytes are written; 0 after a refusal.
+ *   [TAKZULIT_PLACE]   the refusal's place; 0 otherwise. Reading: a byte, counted from the transaction's first. Writing: for 6, 12 and 13 a
+ *                      record, counted from 0 in its own table (the number of inputs, where the items don't add up to the head's); 4 for 7
+ *                      and 8; 0 for 2, 10 and 14;
+ *   [TAKZULIT_TAKEN]   reading: how many bytes this call took, the one that settles a refusal included. Writing (TAKZULIT_LENGTH): how many
+ *                      bytes are written; 0 after a refusal.
  *
  * The head, uint32_t[7]: version, witness flag, inputs, outputs, items, locktime, length in bytes. A reader sets it to 0 unless the reading
- * is finished. A writer does not look at the length in it.
+ * is finished. A writer does not look at the length in it, nor at records behind its counts.
  */
 #ifndef TAKZULIT_H
 #define TAKZULIT_H
@@ -41,24 +56,25 @@ extern "C" {
 
 enum { TAKZULIT_NUMBER = 0, TAKZULIT_PLACE = 1, TAKZULIT_TAKEN = 2, TAKZULIT_LENGTH = 2 };
 
-/* The numbers. Places of a reading: docs of document 01, "Numbers at the gate". */
+/* The numbers, and the place that each has in a reading. */
 enum {
     TAKZULIT_FINISHED = 0,
-    TAKZULIT_ENDS_EARLY = 1,       /* finish, and more is wanted */
-    TAKZULIT_LIMIT_PASSED = 2,     /* a field would end past 4,000,000; writing: the written length exceeds it */
-    TAKZULIT_NOT_SHORTEST = 3,     /* a count or length that is not in its shortest form */
-    TAKZULIT_NO_RECORD_LEFT = 4,   /* a count that exceeds the records left in its table */
-    TAKZULIT_BAD_PREFIX = 5,
-    TAKZULIT_NULL_ISSUANCE = 6,    /* issuance flag, null issuance */
-    TAKZULIT_BAD_FLAG = 7,         /* witness flag above 1 */
-    TAKZULIT_EMPTY_WITNESSES = 8,  /* flag 1, all witnesses empty */
-    TAKZULIT_BYTES_FOLLOW = 9,     /* strict reading */
-    TAKZULIT_TABLES_DIFFER = 10,   /* table lengths differ from the fresh start's; writing: a count exceeds its table */
-    TAKZULIT_STATE_FORGED = 11,    /* the state fails the range test of docs/STATE.md */
-    TAKZULIT_OUTPOINT_UNCLEAR = 12, /* writing: outpoint can't be told apart */
-    TAKZULIT_BAD_RECORD = 13,      /* writing: a record breaks the tables' rules, or a body lies outside the source */
-    TAKZULIT_OUTPUT_SHORT = 14,    /* writing */
-    TAKZULIT_MORE = 255            /* more is wanted: neither finished nor refused */
+    TAKZULIT_ENDS_EARLY = 1,        /* finish, and more is wanted; at the bytes taken */
+    TAKZULIT_LIMIT_PASSED = 2,      /* a field would end past 4,000,000; at its start, for a body or further bytes at the length's or count's.
+                                       Writing: the written length exceeds it */
+    TAKZULIT_NOT_SHORTEST = 3,      /* a count or length that is not in its shortest form; at its start */
+    TAKZULIT_NO_RECORD_LEFT = 4,    /* a count that exceeds the records left in its table; at its start */
+    TAKZULIT_BAD_PREFIX = 5,        /* a prefix that is not listed; there */
+    TAKZULIT_NULL_ISSUANCE = 6,     /* issuance flag, amount and keys null; at the issuance */
+    TAKZULIT_BAD_FLAG = 7,          /* witness flag above 1, told after the locktime; at 4 */
+    TAKZULIT_EMPTY_WITNESSES = 8,   /* flag 1, all witnesses empty; at 4 */
+    TAKZULIT_BYTES_FOLLOW = 9,      /* strict reading; at the first byte that follows */
+    TAKZULIT_TABLES_DIFFER = 10,    /* table lengths differ from the fresh start's; at 0. Writing: a count exceeds its table */
+    TAKZULIT_STATE_FORGED = 11,     /* the state fails the range test of docs/STATE.md; at 0. It comes before 10 */
+    TAKZULIT_OUTPOINT_UNCLEAR = 12, /* writing: an outpoint that can't be told apart: it would be read as another */
+    TAKZULIT_BAD_RECORD = 13,       /* writing: a record breaks the tables' rules, or a body lies outside the source */
+    TAKZULIT_OUTPUT_SHORT = 14,     /* writing: it has no room */
+    TAKZULIT_MORE = 255             /* more is wanted: neither finished nor refused */
 };
 
 /*
@@ -70,9 +86,11 @@ void takzulit_new(size_t state[TAKZULIT_STATE],
                   uint32_t *items, size_t items_len);
 
 /*
- * Feeds a piece of any length. Wherever the bytes are cut, after each call answer, head and tables are what document 01's reading says of all
- * bytes fed so far. MORE: the piece was taken entire. Finished: at once with the last byte; what follows in the piece is left. Refused: tables
- * and head are 0. An ended reading takes no more and repeats its answer. 10 and 11 leave state and tables as they were and take nothing.
+ * Feeds a piece of any length. Where state and tables come from takzulit_new and were handed on unaltered, then after each call, wherever the
+ * bytes are cut, answer, head and tables are what document 01's reading says of all bytes fed so far. Whatever they are: MORE, the piece was
+ * taken entire. Finished: at once with the last byte; what follows in the piece is left. Refused by 1 to 9: tables and head are 0. An ended
+ * reading takes no more and repeats its answer. 10 and 11 leave state and tables as they were and take nothing. No answer depends on what
+ * stands in the tables. A forged state that passes the range test is read on, within what is lent; it then tells of no bytes that came.
  */
 void takzulit_push_bytes(size_t state[TAKZULIT_STATE],
                          const uint8_t *piece, size_t piece_len,
@@ -82,7 +100,8 @@ void takzulit_push_bytes(size_t state[TAKZULIT_STATE],
                          uint32_t head[TAKZULIT_HEAD], size_t answer[TAKZULIT_ANSWER]);
 
 /*
- * Finishes: refusal 1 where more is wanted, at the bytes taken; an ended reading repeats its answer. It takes 0 bytes. 10 and 11 as above.
+ * Finishes: refusal 1 where more is wanted, at the bytes taken; an ended reading repeats its answer. It takes 0 bytes. Refusals leave what they
+ * leave above.
  */
 void takzulit_end(size_t state[TAKZULIT_STATE],
                   uint32_t *inputs, size_t inputs_len,
@@ -91,7 +110,7 @@ void takzulit_end(size_t state[TAKZULIT_STATE],
                   uint32_t head[TAKZULIT_HEAD], size_t answer[TAKZULIT_ANSWER]);
 
 /*
- * Reads at once: fresh start, one piece, finish. Never MORE, 10 or 11.
+ * Reads at once: fresh start, one piece, finish. Never MORE, 10 or 11. Refused: tables and head are 0.
  */
 void takzulit_read(const uint8_t *bytes, size_t bytes_len,
                    uint32_t *inputs, size_t inputs_len,
@@ -100,7 +119,7 @@ void takzulit_read(const uint8_t *bytes, size_t bytes_len,
                    uint32_t head[TAKZULIT_HEAD], size_t answer[TAKZULIT_ANSWER]);
 
 /*
- * The same, and 9 where bytes follow a finished transaction.
+ * The same, and 9 where bytes follow a finished transaction: it is refused then, and the bytes taken are its own.
  */
 void takzulit_read_strict(const uint8_t *bytes, size_t bytes_len,
                           uint32_t *inputs, size_t inputs_len,
@@ -120,8 +139,8 @@ void takzulit_written_length(const uint32_t head[TAKZULIT_HEAD],
 
 /*
  * Writes a transaction from its head numbers, its tables and the source in which its bodies stand. Finished: the written bytes stand at the
- * output's start, and bytes behind them keep their values. Refused: the output is as it was. Tables of a finished reading, with the bytes
- * that were read as the source, give these bytes again.
+ * output's start, and bytes behind them keep their values. Refused: the output is as it was. Head and tables of a finished reading, with the
+ * bytes that were read as the source, give these bytes again, or 14.
  */
 void takzulit_write(const uint32_t head[TAKZULIT_HEAD],
                     const uint32_t *inputs, size_t inputs_len,
