@@ -1,4 +1,7 @@
-/* Reads a transaction from a file in pieces, as a radio link brings them, and prints answer, place, inputs, outputs and items. */
+/*
+ * Reads a transaction from a file in pieces, as a radio link brings them, and prints answer, place, inputs, outputs and items. Bytes behind it are
+ * no fault here, as they would be to the strict form; those that came with its last piece are told.
+ */
 #include <stdio.h>
 #include <takzulit.h>
 
@@ -30,6 +33,6 @@ int main(int argc, char **argv) {
     fclose(file);
     printf("%zu %zu %u %u %u\n", answer[TAKZULIT_NUMBER], answer[TAKZULIT_PLACE], head[2], head[3], head[4]);
     if (answer[TAKZULIT_NUMBER] == TAKZULIT_FINISHED && answer[TAKZULIT_TAKEN] < n)
-        printf("%zu bytes of the last piece follow it\n", n - answer[TAKZULIT_TAKEN]);
+        printf("bytes of the last piece that follow it: %zu\n", n - answer[TAKZULIT_TAKEN]);
     return answer[TAKZULIT_NUMBER] != TAKZULIT_FINISHED;
 }

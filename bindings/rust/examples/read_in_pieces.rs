@@ -1,9 +1,15 @@
-//! Reads a transaction from a file in pieces, as a radio link brings them, and prints answer, place, inputs, outputs and items.
+//! Reads a transaction from a file in pieces, as a radio link brings them, and prints answer, place, inputs, outputs and items. Bytes behind it are
+//! no fault here, as they would be to the strict form; those that came with its last piece are told.
 use std::{env, fs::File, io::Read, process::ExitCode};
 use takzulit::{DecoderStatus, Refusal, Transaction, TransactionDecoder};
 
 fn main() -> ExitCode {
-    let file = match env::args().nth(1).and_then(|name| File::open(name).ok()) {
+    let mut words = env::args_os().skip(1);
+    let file = match (words.next(), words.next()) {
+        (Some(name), None) => File::open(name).ok(),
+        _ => None,
+    };
+    let file = match file {
         Some(file) => file,
         None => {
             eprintln!("usage: read_in_pieces FILE (one that can be read)");
@@ -20,21 +26,26 @@ fn main() -> ExitCode {
             println!("{} {} 0 0 0", refusal.number, refusal.place);
             ExitCode::FAILURE
         }
-        Ok(Ok(t)) => {
+        Ok(Ok((t, left))) => {
             println!("0 0 {} {} {}", t.head.inputs, t.head.outputs, t.head.items);
+            if left > 0 {
+                println!("bytes of the last piece that follow it: {left}");
+            }
             ExitCode::SUCCESS
         }
     }
 }
 
-fn read<'t>(mut file: File, mut decoder: TransactionDecoder<'t>) -> std::io::Result<Result<Transaction<'t>, Refusal>> {
+/// The transaction, and how many bytes of the last piece follow it.
+fn read<'t>(mut file: File, mut decoder: TransactionDecoder<'t>) -> std::io::Result<Result<(Transaction<'t>, usize), Refusal>> {
     let mut piece = [0; 1400];
     loop {
         let n = file.read(&mut piece)?;
-        match decoder.push_bytes(&mut &piece[..n]) {
+        let mut rest = &piece[..n];
+        match decoder.push_bytes(&mut rest) {
             Err(refusal) => return Ok(Err(refusal)),
             Ok(DecoderStatus::NeedsMore) if n > 0 => {}
-            Ok(_) => return Ok(decoder.end()),
+            Ok(_) => return Ok(decoder.end().map(|t| (t, rest.len()))),
         }
     }
 }

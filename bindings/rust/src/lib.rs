@@ -1,8 +1,8 @@
 //! Reads and writes Elements transactions with the proved library of Takzulit.
 //!
-//! [`TransactionDecoder`] has the interface of the crate `elements`: [`push_bytes`](TransactionDecoder::push_bytes) takes bytes off the front of a
+//! [`TransactionDecoder`] follows the interface of the crate `elements`: [`push_bytes`](TransactionDecoder::push_bytes) takes bytes off the front of a
 //! slice, [`end`](TransactionDecoder::end) gives the transaction. Nothing is allocated: numbers and positions go into three tables that
-//! the caller lends, and bodies stay where the bytes are.
+//! the caller lends, and bodies stay where the bytes are. `docs/DIFFERENCES.md`, section 5, says where it departs from the original.
 //!
 //! ```
 //! use takzulit::{DecoderStatus, TransactionDecoder, Value};
@@ -35,6 +35,8 @@
 //! # Ok::<(), takzulit::Refusal>(())
 //! ```
 
+#![deny(unsafe_code)]
+
 mod raw;
 mod records;
 
@@ -59,7 +61,8 @@ const MORE: usize = 255;
 pub struct Refusal {
     /// 1 to 14, as document 01 numbers them.
     pub number: usize,
-    /// Reading: the byte, from the transaction's start. Writing: the record, for 6, 12 and 13.
+    /// Reading: the byte, from the transaction's start. Writing: for 6, 12 and 13 the record, from 0 in its own table (the number of inputs,
+    /// where the items don't add up); 4 for 7 and 8; otherwise 0.
     pub place: usize,
 }
 
@@ -70,16 +73,16 @@ impl Refusal {
             1 => "the bytes end inside the transaction",
             2 => "longer than 4,000,000 bytes",
             3 => "a count or length is not in its shortest form",
-            4 => "more records than the table holds",
+            4 => "a count exceeds the records left in its table",
             5 => "a prefix that is not listed",
             6 => "an issuance flag with a null issuance",
             7 => "a witness flag above 1",
             8 => "the witness flag is 1 and all witnesses are empty",
             9 => "bytes follow",
-            10 => "the tables' lengths don't fit",
+            10 => "the tables have other lengths than at the start, or a count exceeds its table",
             11 => "the reading state is out of its range",
             12 => "an outpoint that can't be told apart",
-            13 => "a record breaks the tables' rules",
+            13 => "a record breaks the tables' rules, or a body lies outside the source",
             14 => "the output is too short",
             _ => "no refusal",
         }
@@ -140,8 +143,9 @@ impl<'t> TransactionDecoder<'t> {
         decoder
     }
 
-    /// Goes on with a state that [`state`](Self::state) gave, and the tables as they were then. Nothing is believed: a state out of its range is
-    /// refused by 11 at the next call, tables of other lengths by 10, and both change nothing.
+    /// Goes on with a state that [`state`](Self::state) gave, and the tables as they were then. A state out of its range is refused by 11 at the
+    /// next call, tables of other lengths by 10, and both change nothing. Any other state is read on, and no answer depends on what stands in the
+    /// tables: a forged one does no harm, but what it comes to then is no reading of any bytes.
     pub fn resume(state: [usize; 20], inputs: &'t mut [u32], outputs: &'t mut [u32], items: &'t mut [u32]) -> Self {
         TransactionDecoder { state, lent: raw::Lent { inputs, outputs, items } }
     }
@@ -152,7 +156,7 @@ impl<'t> TransactionDecoder<'t> {
     }
 
     /// Feeds a piece, and takes what was read off its front. What follows a finished transaction stays. After a refusal the tables are 0 and
-    /// every later call repeats it.
+    /// every later call repeats it; 10 and 11, which only [`resume`](Self::resume) can lead to, take and change nothing.
     pub fn push_bytes(&mut self, bytes: &mut &[u8]) -> Result<DecoderStatus, Refusal> {
         let (mut head, mut answer) = ([0; raw::HEAD], [0; raw::ANSWER]);
         raw::push_bytes(&mut self.state, bytes, &mut self.lent, &mut head, &mut answer);
@@ -179,7 +183,8 @@ fn finished<'t>(head: [u32; raw::HEAD], answer: [usize; raw::ANSWER], lent: raw:
     }
 }
 
-/// A transaction: its head numbers and the lent tables. Positions in it count from its first byte.
+/// A transaction: its head numbers and the lent tables. Positions in it count from its first byte. The fields are open, so that one can be made
+/// to be written; whatever stands in them, no method panics.
 #[derive(Clone, Copy, Debug)]
 pub struct Transaction<'t> {
     pub head: Head,
@@ -212,14 +217,15 @@ impl<'t> Transaction<'t> {
         written(answer)
     }
 
-    /// Writes the transaction to the output's start, bodies from the source, and gives its length. A refused write leaves the output as it was.
+    /// Writes the transaction to the output's start, bodies from the source, and gives its length. Bytes behind it keep their values. A refused
+    /// write leaves the output as it was.
     pub fn write(&self, source: &[u8], output: &mut [u8]) -> Result<usize, Refusal> {
         let mut answer = [0; raw::ANSWER];
         raw::write(&self.head.numbers(), self.inputs, self.outputs, self.items, source, output, &mut answer);
         written(answer)
     }
 
-    /// The inputs, in order.
+    /// The inputs, in order: as many as the head says, and the table holds.
     pub fn inputs(&self) -> impl Iterator<Item = Input> + 't {
         self.inputs.chunks_exact(INPUT_WIDTH).take(self.head.inputs as usize).map(Input::of)
     }

@@ -1,4 +1,8 @@
 //! The functions of `include/takzulit.h`, declared. Everything unsafe is in this file.
+#![allow(unsafe_code)]
+
+#[cfg(not(all(target_os = "linux", target_arch = "x86_64", target_pointer_width = "64")))]
+compile_error!("libtakzulit.a is for x86-64 Linux");
 
 pub const STATE: usize = 20;
 pub const HEAD: usize = 7;
@@ -98,7 +102,8 @@ pub struct Lent<'a> {
     pub items: &'a mut [u32],
 }
 
-// Each call below lends what Rust's references already promise: aligned, not null, as long as they say, and what is `&mut` overlaps nothing.
+// Each call below lends what Rust's references already promise: aligned, not null, as long as they say; what is `&mut` overlaps nothing, and
+// nobody writes what is `&`. Each pointer goes with the length of the slice it was taken from; arrays have the length that the header wants.
 
 pub fn new(state: &mut [usize; STATE], t: &mut Lent) {
     unsafe {

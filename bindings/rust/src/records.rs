@@ -15,13 +15,14 @@ impl Body {
         Body { position, length }
     }
 
-    /// As a range of the transaction's bytes.
+    /// As a range of the transaction's bytes. A finished reading's lie within them; of other tables, `bytes.get(range)` tells.
     pub fn range(&self) -> Range<usize> {
         self.position as usize..self.position as usize + self.length as usize
     }
 }
 
-/// An amount of an issuance: no position of its own.
+/// An amount of an issuance: no position of its own. The first stands 64 bytes behind the issuance's position, the second behind it; each has its
+/// prefix, and then 0, 8 or 32 bytes.
 #[derive(Clone, Copy, Debug, PartialEq, Eq)]
 pub enum Amount {
     Null,

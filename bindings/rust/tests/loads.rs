@@ -1,5 +1,5 @@
 //! Document 01's loads through the linked library. Every expected number stands in 01, or is counted from its layout.
-use takzulit::{Amount, DecoderStatus, Refusal, Transaction, TransactionDecoder, Value};
+use takzulit::{Amount, DecoderStatus, Head, Refusal, Transaction, TransactionDecoder, Value};
 
 fn bytes(hex: &str) -> Vec<u8> {
     let digits: Vec<u8> = hex.bytes().filter(|b| !b.is_ascii_whitespace()).collect();
@@ -203,10 +203,38 @@ fn writing_refuses() {
     let mut inputs: Vec<u32> = t.inputs.to_vec();
     inputs[1] = 0x4000_0000;
     assert_eq!(Transaction { inputs: &inputs, ..t }.written_length(&b), Err(Refusal { number: 12, place: 0 }));
-    // more inputs than records
-    let mut head = t.head;
-    head.inputs = 2;
-    assert_eq!(Transaction { head, ..t }.written_length(&b), Err(Refusal { number: 10, place: 0 }));
+    // other heads: more inputs than records; a flag above 1; flag 1 over empty witnesses; an item that is no input's, placed at the number of inputs
+    for (head, number, place) in [
+        (Head { inputs: 2, ..t.head }, 10, 0),
+        (Head { flag: 2, ..t.head }, 7, 4),
+        (Head { flag: 1, ..t.head }, 8, 4),
+        (Head { items: 1, ..t.head }, 13, 1),
+    ] {
+        assert_eq!(Transaction { head, ..t }.written_length(&b), Err(Refusal { number, place }));
+    }
+}
+
+#[test]
+fn tables_that_no_reading_gave() {
+    let head = Head { flag: 1, inputs: u32::MAX, outputs: u32::MAX, items: u32::MAX, ..Head::default() };
+    let t = Transaction { head, inputs: &[u32::MAX; 39], outputs: &[u32::MAX; 27], items: &[u32::MAX; 3] };
+    // a table holds as many whole records as fit
+    assert_eq!((t.inputs().count(), t.outputs().count(), t.items().count()), (1, 1, 1));
+    let most = u32::MAX as usize;
+    let input = t.inputs().next().unwrap();
+    assert_eq!((input.script_items(), input.pegin_items()), (most..2 * most, 2 * most..3 * most));
+    assert_eq!((input.script.range(), t.items().next().unwrap().body.range()), (most..2 * most, most..2 * most));
+    let output = t.outputs().next().unwrap();
+    assert_eq!((output.asset.body().length, output.is_fee()), (32, false));
+    let mut written = [9; 100];
+    assert_eq!(t.write(&[], &mut written), Err(Refusal { number: 10, place: 0 }));
+    assert_eq!(written, [9; 100]);
+    // tables without a number
+    let none = Transaction { inputs: &[], outputs: &[], items: &[], ..t };
+    assert_eq!((none.inputs().count(), none.outputs().count(), none.items().count()), (0, 0, 0));
+    assert_eq!(none.written_length(&[]), Err(Refusal { number: 10, place: 0 }));
+    let mut decoder = TransactionDecoder::new(&mut [], &mut [], &mut []);
+    assert_eq!(decoder.push_bytes(&mut &bytes("02000000 00 01")[..]), Err(Refusal { number: 4, place: 5 }));
 }
 
 #[test]
