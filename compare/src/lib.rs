@@ -1,4 +1,4 @@
-//! An independent judge of the transaction codec, written from document 01 alone.
+//! An independent judge of the transaction codec, written from document 01, the demands and the list of readings.
 //!
 //! - [`paper`]: the constants of document 01 and the shapes every form shares.
 //! - [`plain`]: the clear reader and writer. They are the judge.
