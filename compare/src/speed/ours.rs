@@ -10,6 +10,10 @@ use crate::paper::*;
 
 #[inline(never)]
 pub fn fresh(_: &Order, desk: &mut Desk) {
+    start(desk);
+}
+
+fn start(desk: &mut Desk) {
     let Desk { inputs, outputs, items, state, .. } = desk;
     unsafe {
         takzulit_new(
@@ -54,7 +58,7 @@ pub fn pieces(load: &Order, desk: &mut Desk) {
 }
 
 fn fed(load: &Order, piece: usize, desk: &mut Desk) {
-    fresh(load, desk);
+    start(desk);
     for piece in load.source.chunks(piece) {
         push(piece, desk);
     }
