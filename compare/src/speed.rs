@@ -68,49 +68,44 @@ struct Form {
     against: &'static str,
     ours: Act,
     judge: Act,
-    /// Whether both sides left the same answer.
-    agree: fn(&Desk, &Desk) -> bool,
+    /// Whether both sides left the same answer, and the right one.
+    agree: fn(&Order, &Desk, &Desk) -> bool,
+    /// Whether the work goes over the transaction, so that MB/s says something.
+    goes_over: bool,
 }
 
+#[rustfmt::skip]
 const FORMS: [Form; 6] = [
-    Form {
-        name: "fresh start alone",
-        against: "Lent::zero",
-        ours: ours::fresh,
-        judge: judge::fresh,
-        agree: same_tables,
-    },
-    Form { name: "at once, strict", against: "whole", ours: ours::at_once, judge: judge::at_once, agree: same_reading },
-    Form {
-        name: "fed in one piece",
-        against: "resume",
-        ours: ours::one_piece,
-        judge: judge::one_piece,
-        agree: same_reading,
-    },
-    Form {
-        name: "fed in pieces of 1,400",
-        against: "resume",
-        ours: ours::pieces,
-        judge: judge::pieces,
-        agree: same_reading,
-    },
-    Form { name: "write", against: "writer", ours: ours::write, judge: judge::write, agree: same_writing },
-    Form { name: "written length", against: "writer", ours: ours::length, judge: judge::length, agree: same_writing },
+    Form { name: "fresh start alone", against: "Lent::zero", ours: ours::fresh, judge: judge::fresh, agree: cleared, goes_over: false },
+    Form { name: "at once, strict", against: "whole", ours: ours::at_once, judge: judge::at_once, agree: read, goes_over: true },
+    Form { name: "fed in one piece", against: "resume", ours: ours::one_piece, judge: judge::one_piece, agree: read, goes_over: true },
+    Form { name: "fed in pieces of 1,400", against: "resume", ours: ours::pieces, judge: judge::pieces, agree: read, goes_over: true },
+    Form { name: "write", against: "writer", ours: ours::write, judge: judge::write, agree: written, goes_over: true },
+    Form { name: "written length", against: "writer", ours: ours::length, judge: judge::length, agree: length, goes_over: false },
 ];
+
+fn cleared(_: &Order, ours: &Desk, judge: &Desk) -> bool {
+    ours.inputs.iter().chain(&ours.outputs).chain(&ours.items).all(|&number| number == 0) && same_tables(ours, judge)
+}
+
+fn read(load: &Order, ours: &Desk, judge: &Desk) -> bool {
+    let Outcome { answer, place, taken, head } = judge.outcome;
+    let finished = answer == FINISHED && head[6] as usize == load.source.len();
+    finished && ours.answer == [answer, place, taken] && ours.head == head && same_tables(ours, judge)
+}
 
 fn same_tables(ours: &Desk, judge: &Desk) -> bool {
     ours.inputs == judge.inputs && ours.outputs == judge.outputs && ours.items == judge.items
 }
 
-fn same_reading(ours: &Desk, judge: &Desk) -> bool {
-    let Outcome { answer, place, taken, head } = judge.outcome;
-    answer == FINISHED && ours.answer == [answer, place, taken] && ours.head == head && same_tables(ours, judge)
+fn written(load: &Order, ours: &Desk, judge: &Desk) -> bool {
+    // Behind the written bytes both outputs keep what former ones left.
+    length(load, ours, judge) && ours.output == judge.output && ours.output.starts_with(load.source)
 }
 
-fn same_writing(ours: &Desk, judge: &Desk) -> bool {
+fn length(load: &Order, ours: &Desk, judge: &Desk) -> bool {
     let Written { answer, place, length } = judge.written;
-    answer == FINISHED && ours.answer == [answer, place, length] && ours.output == judge.output
+    answer == FINISHED && length == load.source.len() && ours.answer == [answer, place, length]
 }
 
 /// Checks both sides on every transaction, then measures. False if they differ.
@@ -188,7 +183,7 @@ fn all_agree(loads: &[Order]) -> bool {
         for (number, load) in loads.iter().enumerate() {
             (form.ours)(load, &mut ours);
             (form.judge)(load, &mut judge);
-            if !(form.agree)(&ours, &judge) {
+            if !(form.agree)(load, &ours, &judge) {
                 println!("transaction {number}: {} differs", form.name);
                 return false;
             }
@@ -209,8 +204,9 @@ impl Course<'_> {
         self.loads.len() * self.times
     }
 
-    fn bytes(&self) -> usize {
-        self.loads.iter().map(|load| load.source.len()).sum::<usize>() * self.times
+    /// Bytes of a transaction.
+    fn mean_bytes(&self) -> f64 {
+        self.loads.iter().map(|load| load.source.len()).sum::<usize>() as f64 / self.loads.len() as f64
     }
 
     /// One round's nanoseconds.
@@ -242,19 +238,23 @@ fn measure(form: &Form, bytes: &str, course: &Course, rounds: usize) {
         ours.push(course.clocked(form.ours, &mut desk));
         judge.push(course.clocked(form.judge, &mut desk));
     }
-    let [ours, judge] = [ours, judge].map(least_and_median);
-    let each = |times: [f64; 2]| times.map(|time| time / course.transactions() as f64);
-    let speed = |times: [f64; 2]| course.bytes() as f64 * 1e3 / times[0];
+    let each = |times| least_and_median(times).map(|time| time / course.transactions() as f64);
     let ([our_least, our_median], [judge_least, judge_median]) = (each(ours), each(judge));
-    println!(
-        "| {} | `{}` | {bytes} | {our_least:.0}, {our_median:.0} | {judge_least:.0}, {judge_median:.0} | {:.0} | {:.0} | {:.2} | {:.2} |",
-        form.name,
-        form.against,
-        speed(ours),
-        speed(judge),
-        our_least / judge_least,
-        our_median / judge_median,
-    );
+    let ratios = [our_least / judge_least, our_median / judge_median].map(|ratio| format!("{ratio:.2}"));
+    let speeds = [our_least, judge_least].map(|time| match form.goes_over {
+        true => format!("{:.0}", course.mean_bytes() * 1e3 / time),
+        false => "".to_string(),
+    });
+    let columns = [
+        form.name.to_string(),
+        format!("`{}`", form.against),
+        bytes.to_string(),
+        format!("{our_least:.0}, {our_median:.0}"),
+        format!("{judge_least:.0}, {judge_median:.0}"),
+        speeds.join(" | "),
+        ratios.join(" | "),
+    ];
+    println!("| {} |", columns.join(" | "));
 }
 
 fn least_and_median(mut times: Vec<f64>) -> [f64; 2] {
