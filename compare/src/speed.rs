@@ -1,7 +1,7 @@
 //! How fast the library is beside the judge's fast forms, on realistic transactions, in one run.
 //!
 //! Both sides get the same bytes, the same tables of the gate's sizes, and are called through a pointer to a function
-//! that isn't inlined, so neither is compiled for these sizes. Rounds alternate, so that a disturbance hits both.
+//! that isn't inlined, so neither is compiled for these sizes. Their rounds alternate, so that a disturbance hits both.
 
 mod judge;
 mod ours;
@@ -20,6 +20,10 @@ const PIECE: usize = 1_400;
 
 /// The part that stays in the cache: so many transactions from the front.
 const NEAR: usize = 40;
+
+/// Transactions of one clocked round: short enough that most rounds aren't interrupted, long enough that its pages
+/// exceed what the processor remembers of them.
+const STRETCH: usize = 2_000;
 
 /// What a call is lent, and where it leaves what it says.
 struct Desk {
@@ -123,9 +127,8 @@ pub fn run(seed: u64, count: usize, rounds: usize) -> bool {
     println!("| Form | Judge's form | Bytes | Ours, ns | Judge's, ns | Ours, MB/s | Judge's, MB/s | Ratio | Ratio of medians |");
     println!("|---|---|---|---|---|---|---|---|---|");
     for form in &FORMS {
-        measure(form, "whole file", &Course { loads: &loads, times: 1, far: true }, rounds);
-        let near = &loads[..NEAR.min(loads.len())];
-        measure(form, "in cache", &Course { loads: near, times: count.div_ceil(near.len()), far: false }, rounds);
+        print_row(form, "whole file", &Course::whole_file(&loads), rounds);
+        print_row(form, "in cache", &Course::in_cache(&loads), rounds);
     }
     true
 }
@@ -192,23 +195,15 @@ fn all_agree(loads: &[Order]) -> bool {
     true
 }
 
-/// Which transactions one round goes over, how often, and whether it starts with none of them in the cache.
-struct Course<'a> {
+/// The transactions of one clocked round, how often it goes over them, and whether it starts with none of them in the cache.
+#[derive(Clone, Copy)]
+struct Stretch<'a> {
     loads: &'a [Order<'a>],
     times: usize,
     far: bool,
 }
 
-impl Course<'_> {
-    fn transactions(&self) -> usize {
-        self.loads.len() * self.times
-    }
-
-    /// Bytes of a transaction.
-    fn mean_bytes(&self) -> f64 {
-        self.loads.iter().map(|load| load.source.len()).sum::<usize>() as f64 / self.loads.len() as f64
-    }
-
+impl Stretch<'_> {
     /// One round's nanoseconds.
     fn clocked(&self, act: Act, desk: &mut Desk) -> f64 {
         if self.far {
@@ -224,6 +219,51 @@ impl Course<'_> {
     }
 }
 
+/// Stretches, whose times are added up.
+struct Course<'a>(Vec<Stretch<'a>>);
+
+impl<'a> Course<'a> {
+    /// Every transaction once, none of them in the cache.
+    fn whole_file(loads: &'a [Order<'a>]) -> Course<'a> {
+        Course(loads.chunks(STRETCH).map(|loads| Stretch { loads, times: 1, far: true }).collect())
+    }
+
+    /// The first few again and again, as many readings in all.
+    fn in_cache(loads: &'a [Order<'a>]) -> Course<'a> {
+        let near = &loads[..NEAR.min(loads.len())];
+        let stretch = Stretch { loads: near, times: STRETCH / NEAR, far: false };
+        Course(vec![stretch; loads.len().div_ceil(STRETCH)])
+    }
+
+    fn transactions(&self) -> usize {
+        self.0.iter().map(|stretch| stretch.loads.len() * stretch.times).sum()
+    }
+
+    /// Bytes of a transaction.
+    fn mean_bytes(&self) -> f64 {
+        let loads = || self.0.iter().flat_map(|stretch| stretch.loads);
+        loads().map(|load| load.source.len()).sum::<usize>() as f64 / loads().count() as f64
+    }
+
+    /// Nanoseconds for a transaction, least and median: of ours, of the judge's. Sums of each stretch's.
+    fn measured(&self, form: &Form, rounds: usize) -> [[f64; 2]; 2] {
+        let mut desk = Desk::new(self.0.iter().map(|stretch| longest(stretch.loads)).max().unwrap_or(0));
+        let mut sums = [[0.0; 2]; 2];
+        for stretch in &self.0 {
+            let mut times = [Vec::new(), Vec::new()];
+            for _ in 0..rounds {
+                times[0].push(stretch.clocked(form.ours, &mut desk));
+                times[1].push(stretch.clocked(form.judge, &mut desk));
+            }
+            for (sum, times) in sums.iter_mut().zip(times) {
+                let [least, median] = least_and_median(times);
+                *sum = [sum[0] + least, sum[1] + median];
+            }
+        }
+        sums.map(|sum| sum.map(|time| time / self.transactions() as f64))
+    }
+}
+
 fn pass(act: Act, loads: &[Order], desk: &mut Desk) {
     for load in loads {
         black_box(act)(black_box(load), desk);
@@ -231,15 +271,8 @@ fn pass(act: Act, loads: &[Order], desk: &mut Desk) {
     black_box(desk);
 }
 
-fn measure(form: &Form, bytes: &str, course: &Course, rounds: usize) {
-    let mut desk = Desk::new(longest(course.loads));
-    let (mut ours, mut judge) = (Vec::new(), Vec::new());
-    for _ in 0..rounds {
-        ours.push(course.clocked(form.ours, &mut desk));
-        judge.push(course.clocked(form.judge, &mut desk));
-    }
-    let each = |times| least_and_median(times).map(|time| time / course.transactions() as f64);
-    let ([our_least, our_median], [judge_least, judge_median]) = (each(ours), each(judge));
+fn print_row(form: &Form, bytes: &str, course: &Course, rounds: usize) {
+    let [[our_least, our_median], [judge_least, judge_median]] = course.measured(form, rounds);
     let ratios = [our_least / judge_least, our_median / judge_median].map(|ratio| format!("{ratio:.2}"));
     let speeds = [our_least, judge_least].map(|time| match form.goes_over {
         true => format!("{:.0}", course.mean_bytes() * 1e3 / time),
