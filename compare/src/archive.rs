@@ -12,7 +12,7 @@ pub const STATE: usize = 20;
 pub type State = [usize; STATE];
 
 extern "C" {
-    fn takzulit_new(
+    pub(crate) fn takzulit_new(
         state: *mut usize,
         inputs: *mut u32,
         inputs_len: usize,
@@ -21,7 +21,7 @@ extern "C" {
         items: *mut u32,
         items_len: usize,
     );
-    fn takzulit_push_bytes(
+    pub(crate) fn takzulit_push_bytes(
         state: *mut usize,
         piece: *const u8,
         piece_len: usize,
@@ -34,7 +34,7 @@ extern "C" {
         head: *mut u32,
         answer: *mut usize,
     );
-    fn takzulit_end(
+    pub(crate) fn takzulit_end(
         state: *mut usize,
         inputs: *mut u32,
         inputs_len: usize,
@@ -45,7 +45,7 @@ extern "C" {
         head: *mut u32,
         answer: *mut usize,
     );
-    fn takzulit_read(
+    pub(crate) fn takzulit_read(
         bytes: *const u8,
         bytes_len: usize,
         inputs: *mut u32,
@@ -57,7 +57,7 @@ extern "C" {
         head: *mut u32,
         answer: *mut usize,
     );
-    fn takzulit_read_strict(
+    pub(crate) fn takzulit_read_strict(
         bytes: *const u8,
         bytes_len: usize,
         inputs: *mut u32,
@@ -69,7 +69,7 @@ extern "C" {
         head: *mut u32,
         answer: *mut usize,
     );
-    fn takzulit_written_length(
+    pub(crate) fn takzulit_written_length(
         head: *const u32,
         inputs: *const u32,
         inputs_len: usize,
@@ -81,7 +81,7 @@ extern "C" {
         source_len: usize,
         answer: *mut usize,
     );
-    fn takzulit_write(
+    pub(crate) fn takzulit_write(
         head: *const u32,
         inputs: *const u32,
         inputs_len: usize,
@@ -95,7 +95,7 @@ extern "C" {
         output_len: usize,
         answer: *mut usize,
     );
-    fn takzulit_is_fee(output: *const u32) -> bool;
+    pub(crate) fn takzulit_is_fee(output: *const u32) -> bool;
 }
 
 const MARK: usize = 0x5a5a_a5a5;

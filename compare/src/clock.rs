@@ -89,10 +89,10 @@ fn timed(loads: &[Load], rounds: usize, read: impl Fn(&Load, &mut Tables)) -> f6
 
 /// Hides a value from the optimiser, so that what is timed is not left out. (`std::hint::black_box` is younger than the
 /// compiler of Debian 12.)
-fn black_box<T>(value: T) -> T {
-    let value = std::mem::ManuallyDrop::new(value);
-    // SAFETY: read once, and not dropped where it was.
-    unsafe { std::ptr::read_volatile(&*value) }
+pub(crate) fn black_box<T>(mut value: T) -> T {
+    // SAFETY: there is no instruction; the compiler has to think that it reads and writes the value.
+    unsafe { std::arch::asm!("/* {0} */", in(reg) &mut value as *mut T, options(nostack, preserves_flags)) };
+    value
 }
 
 fn plainly(load: &Load, tables: &mut Tables) {

@@ -6,7 +6,9 @@
 //! - `archive`, `forge`: the library under test, and forged states handed to it (feature `archive`).
 //! - [`generate`], [`damage`]: where the inputs come from.
 //! - [`drive`]: the comparisons. [`shrink`]: makes a difference small. [`tally`]: what was seen.
-//! - [`clock`]: how long each form takes. [`program`]: judges the program that reads standard input.
+//! - [`clock`]: how long each form takes. [`realistic`], `speed`: how fast the library is beside them, on transactions such
+//!   as a chain carries (`speed`: feature `archive`).
+//! - [`program`]: judges the program that reads standard input.
 //! - `watch`, `fence`: tell the case if the library crashes, and make it crash if it reads behind its bytes (`archive`).
 //! - [`slips`]: deliberate mistakes, each of which the driver has to find.
 
@@ -23,9 +25,12 @@ pub mod generate;
 pub mod paper;
 pub mod plain;
 pub mod program;
+pub mod realistic;
 pub mod resume;
 pub mod shrink;
 pub mod slips;
+#[cfg(feature = "archive")]
+pub mod speed;
 pub mod tally;
 #[cfg(feature = "archive")]
 pub mod watch;

@@ -5,6 +5,7 @@
 //! - `compare forge [--seed N] [--count N] [--seconds N]` (feature `archive`)
 //! - `compare program --path P [--seed N] [--count N] [--seconds N]`
 //! - `compare time [--seed N]`
+//! - `compare speed [--seed N] [--count N] [--rounds N] [--once]` (feature `archive`)
 
 use compare::drive::{Found, Run};
 use compare::shrink;
@@ -20,15 +21,29 @@ struct Options {
     from: u64,
     slip: usize,
     path: Option<String>,
+    rounds: usize,
+    once: bool,
 }
 
 const DEFAULT_SEED: u64 = 400;
 const DEFAULT_COUNT: u64 = 200_000;
 const DEFAULT_SLIP_COUNT: u64 = 3_000_000;
+const DEFAULT_ROUNDS: usize = 15;
+#[cfg(feature = "archive")]
+const DEFAULT_SPEED_COUNT: u64 = 20_000;
 
 fn options() -> Result<Options, String> {
-    let mut options =
-        Options { command: "run".into(), seed: DEFAULT_SEED, count: None, seconds: None, from: 0, slip: 0, path: None };
+    let mut options = Options {
+        command: "run".into(),
+        seed: DEFAULT_SEED,
+        count: None,
+        seconds: None,
+        from: 0,
+        slip: 0,
+        path: None,
+        rounds: DEFAULT_ROUNDS,
+        once: false,
+    };
     let mut words = std::env::args().skip(1);
     while let Some(word) = words.next() {
         if word == "--path" {
@@ -40,12 +55,14 @@ fn options() -> Result<Options, String> {
             text.parse().map_err(|_| format!("{word} wants a number, not {text}"))
         };
         match word.as_str() {
-            "run" | "slips" | "forge" | "time" | "program" => options.command = word,
+            "run" | "slips" | "forge" | "time" | "program" | "speed" => options.command = word,
             "--seed" => options.seed = number()?,
             "--count" => options.count = Some(number()?),
             "--seconds" => options.seconds = Some(number()?),
             "--from" => options.from = number()?,
             "--slip" => options.slip = number()? as usize,
+            "--rounds" => options.rounds = number()?.max(1) as usize,
+            "--once" => options.once = true,
             _ => return Err(format!("unknown word {word}")),
         }
     }
@@ -64,6 +81,7 @@ fn main() -> ExitCode {
         "slips" => slips(&options),
         "forge" => forge(&options),
         "program" => program(&options),
+        "speed" => speed(&options),
         "time" => {
             compare::clock::run(options.seed);
             true
@@ -168,5 +186,22 @@ fn forge(options: &Options) -> bool {
 #[cfg(not(feature = "archive"))]
 fn forge(_: &Options) -> bool {
     eprintln!("forged states need the library: build with --features archive");
+    false
+}
+
+/// The library beside the judge's fast forms; with `--once` nothing is clocked.
+#[cfg(feature = "archive")]
+fn speed(options: &Options) -> bool {
+    let count = options.count.unwrap_or(DEFAULT_SPEED_COUNT).max(1) as usize;
+    if options.once {
+        compare::speed::once(options.seed, count)
+    } else {
+        compare::speed::run(options.seed, count, options.rounds)
+    }
+}
+
+#[cfg(not(feature = "archive"))]
+fn speed(_: &Options) -> bool {
+    eprintln!("speed measures the library: build with --features archive");
     false
 }
