@@ -1,14 +1,18 @@
 -- The machine's definitions at each test that the code makes: by which way it went, what is left.
 use Prim.Native.Nat.{ℕ, _+_, _-_, _<_, _≤_}
-use mathlib.Core.Path.{_≡_, refl, sym, ap, subst}
-use mathlib.Core.Bool.{Bool, true, false, cond, _||_}
+use mathlib.Core.Path.{_≡_, refl, sym, _∙_, ap, subst}
+use mathlib.Core.Bool.{Bool, true, false, cond, not, _||_}
 use native.Mathlib.Omega.{arith}
 use lib.Dec.{leb, ltb, eqb}
-use borrow.Author.Tests.{le-leb, lt-leb, eq-eqb, ne-eqb}
+use borrow.Author.Tests.{le-leb, lt-leb, eq-eqb, ne-eqb, eqb-false, ltb-true, ltb-false, not-true, not-false}
 use Rattle.layout.specs.Transaction.{limit, announced, least}
 use Rattle.layout.proofs.Reading.{by-cases}
 use Rattle.confidential.specs.Width.{valueWidth, assetWidth, nonceWidth}
 use Rattle.decoders.specs.Machine.{FURTHER, OPAQUE, BIG, State, field, withField, setIndex, setInputs, setOutputs, setLeft, setNull, setEmpty, inputRoom, outputRoom, itemRoom, refuse, finished, opened, number, compact, opaque, further, settled, quiet, input1, input2, output2, high, low, nextInput, nextOutput, nextInputWitness, nextScriptItem, nextPeginItem, bodyEnds, emptied, bodyEntered, bodySeen, bodyOpened, lengthSettled, inputsCounted, outputsCounted, scriptCounted, peginCounted, compactSettled, firstSettled, furtherSettled, valuePart, assetPart, noncePart, amountNext, nullKeysNext, keysNext, assetNext, valueNext, nonceNext, sequenceNext, locktimeNext, locktimeSettled, littleSettled, bigSettled, opaqueSettled, settleBy, Counted, Safe}
+use Rattle.decoders.specs.Needs.{countStart, countAnnounces, countLong, countSettled}
+
+true-not-false : true ≡ false → ⊥
+true-not-false e = let z : _≡_ {A = ℕ} 1 0 = ap (λ (x : Bool). cond x 1 0) e in omega (arith, z)
 
 pub sequence-is : (s : State) → s .spot .issuance ≡ 1 → sequenceNext s ≡ opaque 7 s
 unfolding sequenceNext
@@ -219,9 +223,44 @@ opaque-rest stage s h3 h7 h8 h9 h10 h12 h13 h14 = rw (ne-eqb stage 3 h3, ne-eqb 
 pub form-by : (stage k : ℕ) (s : State) → stage ≡ k → settleBy stage s ≡ settleBy k s
 form-by stage k s e = ap (λ (x : ℕ). settleBy x s) e
 
-pub form-rest : (stage : ℕ) (s : State) → (stage ≡ 0 → ⊥) → (stage ≡ 1 → ⊥) → (stage ≡ 2 → ⊥) → (stage ≡ 3 → ⊥) → settleBy stage s ≡ bigSettled (s .field .stage) s
+pub form-count : (form : ℕ) (s : State) → form ≤ 1 → settleBy form s ≡ countSettled form s
 unfolding settleBy
-form-rest stage s h0 h1 h2 h3 = rw (ne-eqb stage 0 h0, ne-eqb stage 1 h1, ne-eqb stage 2 h2, ne-eqb stage 3 h3)
+form-count form s h =
+    by-cases (eqb form 0)
+    (λ e. rw e)
+    (λ e. let z : form ≡ 0 → ⊥ = eqb-false form 0 e in let one : form ≡ 1 = omega (arith, z) in rw (e, eq-eqb form 1 one))
+
+pub form-rest : (stage : ℕ) (s : State) → 1 < stage → (stage ≡ 2 → ⊥) → (stage ≡ 3 → ⊥) → settleBy stage s ≡ bigSettled (s .field .stage) s
+unfolding settleBy
+form-rest stage s h h2 h3 =
+    let h0 : stage ≡ 0 → ⊥ = λ z. omega (arith, z) in
+    let h1 : stage ≡ 1 → ⊥ = λ z. omega (arith, z) in
+    rw (ne-eqb stage 0 h0, ne-eqb stage 1 h1, ne-eqb stage 2 h2, ne-eqb stage 3 h3)
+
+pub start-further : (form width taken a b : ℕ) → form ≡ 0 → a ≡ taken - width → b ≡ a - 1 → b ≡ countStart form width taken
+start-further form width taken a b z e f = subst (λ (x : ℕ). x ≡ countStart form width taken) (sym (f ∙ ap (λ (y : ℕ). y - 1) e)) (rw (eq-eqb form 0 z))
+
+pub long-further : (form width n : ℕ) (b : Bool) → form ≡ 0 → b ≡ leb (least width) n → not b ≡ countLong form width n
+long-further form width n b z e = subst (λ (x : Bool). not x ≡ countLong form width n) (sym e) (rw (eq-eqb form 0 z))
+
+-- a count or length, by what is known of it
+pub count-announces : (form : ℕ) (s : State) → countAnnounces form (s .field .value) ≡ true → countSettled form s ≡ quiet (opened (countStart form (s .field .width) (s .taken)) (s .field .stage) FURTHER (announced (s .field .value)) s)
+count-announces form s h =
+    by-cases (eqb form 0)
+    (λ e. absurd (true-not-false (sym (rw e at h))))
+    (λ e. let l : 252 < s .field .value = ltb-true 252 (s .field .value) (rw e at h) in rw (e, first-announces s l))
+
+pub count-long : (form : ℕ) (s : State) → countLong form (s .field .width) (s .field .value) ≡ true → countSettled form s ≡ quiet (refuse 3 (countStart form (s .field .width) (s .taken)) s)
+count-long form s h =
+    by-cases (eqb form 0)
+    (λ e. let l : leb (least (s .field .width)) (s .field .value) ≡ false = not-true _ (rw e at h) in rw (e, further-longer s l))
+    (λ e. absurd (true-not-false (sym (rw e at h))))
+
+pub count-known : (form : ℕ) (s : State) → countAnnounces form (s .field .value) ≡ false → countLong form (s .field .width) (s .field .value) ≡ false → countSettled form s ≡ compactSettled (s .field .stage) (countStart form (s .field .width) (s .taken)) (s .field .value) s
+count-known form s a b =
+    by-cases (eqb form 0)
+    (λ e. let l : leb (least (s .field .width)) (s .field .value) ≡ true = not-false _ (rw e at b) in rw (e, further-shortest s l))
+    (λ e. let l : s .field .value ≤ 252 = ltb-false 252 (s .field .value) (rw e at a) in rw (e, first-itself s l))
 
 pub compact-by : (stage k : ℕ) (start n : ℕ) (s : State) → stage ≡ k → compactSettled stage start n s ≡ compactSettled k start n s
 compact-by stage k start n s e = ap (λ (x : ℕ). compactSettled x start n s) e

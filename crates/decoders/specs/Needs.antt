@@ -1,16 +1,17 @@
 -- What private functions need of each other: nothing public cites it, and no promise depends on it.
 use Prim.Native.Nat.{ℕ, _+_, _-_, _^_, _<_, _≤_, min}
 use mathlib.Core.Path.{_≡_}
-use mathlib.Core.Bool.{true, cond}
+use mathlib.Core.Bool.{Bool, true, false, cond, not}
 use mathlib.Core.List.{List}
-use lib.Dec.{eqb}
+use lib.Dec.{eqb, leb, ltb}
 use lib.ListN.{length, take, getD}
 use Rattle.layout.specs.Outcome.{Tables}
 use Rattle.decoders.specs.declared.Sizes.{Sizes}
 use Rattle.decoders.specs.declared.Entered.{Entered}
 use Rattle.decoders.specs.declared.Head.{Head}
-use Rattle.layout.specs.Transaction.{limit}
-use Rattle.decoders.specs.Machine.{OPAQUE, State}
+use Rattle.layout.specs.Transaction.{limit, least}
+use Rattle.decoders.specs.declared.Settled.{Settled}
+use Rattle.decoders.specs.Machine.{OPAQUE, State, firstSettled, furtherSettled}
 use Rattle.decoders.specs.Range.{inRange}
 use Rattle.decoders.specs.Feeding.{sizesOf}
 
@@ -26,6 +27,19 @@ headTold s =
       locktime = s .counts .locktime;
       bytes = s .taken;
     }
+
+-- a count or length by its form: 0 its further bytes, else its first. Where it starts, what a first byte announces, what is not shortest.
+abbrev pub countStart : ℕ → ℕ → ℕ → ℕ
+countStart form width taken = cond (eqb form 0) (taken - width - 1) (taken - 1)
+
+abbrev pub countAnnounces : ℕ → ℕ → Bool
+countAnnounces form n = cond (eqb form 0) false (ltb 252 n)
+
+abbrev pub countLong : ℕ → ℕ → ℕ → Bool
+countLong form width n = cond (eqb form 0) (not (leb (least width) n)) false
+
+abbrev pub countSettled : ℕ → State → Settled
+countSettled form s = cond (eqb form 0) (furtherSettled s) (firstSettled s)
 
 -- how many numbers the table of an entry holds
 abbrev pub sizeBy : ℕ → Sizes → ℕ

@@ -1,11 +1,41 @@
 // Counts and lengths: what follows their value.
 ghost use mathlib.Core.Path.{_≡_};
-ghost use Rattle.decoders.specs.Machine.{itemRoom, emptied, bodyEntered, bodySeen, bodyOpened, lengthSettled, inputsCounted, outputsCounted, scriptCounted, peginCounted, compactSettled, firstSettled, furtherSettled, Safe};
+ghost use Rattle.decoders.specs.Machine.{itemRoom, emptied, bodyEntered, bodySeen, bodyOpened, lengthSettled, inputsCounted, outputsCounted, scriptCounted, peginCounted, compactSettled, Safe};
+ghost use Rattle.decoders.specs.Needs.{countStart, countAnnounces, countLong, countSettled};
 use crate::Entered;
 use crate::Field;
 use crate::Settled;
 use crate::TransactionDecoder;
 use crate::state;
+
+// Where a count or length starts that is read so far: at its first byte.
+fn count_start(form: usize, width: usize, taken: usize) -> usize
+    ensures { λ r. ⌜ r ≡ countStart form width taken ⌝ }
+{
+    if form == 0 {
+        state::minus(state::minus(taken, width), 1)
+    } else {
+        state::minus(taken, 1)
+    }
+}
+
+// A first byte that announces further ones.
+fn count_announces(form: usize, n: usize) -> bool
+    ensures { λ r. ⌜ r ≡ countAnnounces form n ⌝ }
+{
+    if form == 0 { false } else { 252 < n }
+}
+
+// Further bytes that hold less than so many must.
+fn count_long(form: usize, width: usize, n: usize) -> bool
+    ensures { λ r. ⌜ r ≡ countLong form width n ⌝ }
+{
+    if form == 0 {
+        !encode::is_shortest(width, n)
+    } else {
+        false
+    }
+}
 
 impl TransactionDecoder {
     // Whole item records, as many as a u32 can count.
@@ -167,34 +197,23 @@ impl TransactionDecoder {
         }
     }
 
-    pub(crate) fn first_settled(self) -> Settled
+    // A count or length, after its first byte or its further ones. 3: not in shortest form. One place alone calls compact_settled, so that
+    // the compiler puts it there and the state needs no moving.
+    pub(crate) fn count_settled(self) -> Settled
         requires { ⌜ Safe self ⌝ }
-        ensures { λ r. ⌜ r ≡ firstSettled self ⌝ }
+        ensures { λ r. ⌜ r ≡ countSettled (self .field .form) self ⌝ }
     {
         let stage = self.field.stage;
-        let first = self.field.value;
-        let start = state::minus(self.taken, 1);
-        if first <= 252 {
-            self.compact_settled(stage, start, first)
-        } else {
-            self.opened(start, stage, 0, encode::announced(first))
-                .quiet()
-        }
-    }
-
-    // 3: not in shortest form.
-    pub(crate) fn further_settled(self) -> Settled
-        requires { ⌜ Safe self ⌝ }
-        ensures { λ r. ⌜ r ≡ furtherSettled self ⌝ }
-    {
-        let stage = self.field.stage;
+        let form = self.field.form;
         let n = self.field.value;
         let width = self.field.width;
-        let start = state::minus(state::minus(self.taken, width), 1);
-        if encode::is_shortest(width, n) {
-            self.compact_settled(stage, start, n)
-        } else {
-            self.refuse(3, start).quiet()
+        let start = count_start(form, width, self.taken);
+        if count_announces(form, n) {
+            return self.opened(start, stage, 0, encode::announced(n)).quiet();
         }
+        if count_long(form, width, n) {
+            return self.refuse(3, start).quiet();
+        }
+        self.compact_settled(stage, start, n)
     }
 }

@@ -259,9 +259,10 @@ impl TransactionDecoder {
     {
         let form = self.field.form;
         let stage = self.field.stage;
+        if form <= 1 {
+            return self.count_settled();
+        }
         match form {
-            0 => self.further_settled(),
-            1 => self.first_settled(),
             2 => self.opaque_settled(stage),
             3 => self.little_settled(stage),
             _ => self.big_settled(stage),
