@@ -1,0 +1,250 @@
+//! Reading: agreement with the judge after every call, and the demands by themselves.
+
+use crate::bearing::bearing;
+use crate::plan::Plan;
+use compare::archive::Archive;
+use compare::drive::{Feeds, Reads, Resume, Tables, Whole, Writes};
+use compare::generate::Random;
+use compare::paper::*;
+use compare::plain::{self, Ending, Feeding, Reading};
+use compare::slips::Slip;
+
+/// How a reading ended: what its last call said, the sum of bytes taken, and the tables.
+pub struct Shown {
+    pub outcome: Outcome,
+    pub taken: usize,
+    pub tables: Tables,
+}
+
+impl Shown {
+    fn must_equal(&self, other: &Shown, what: &str) {
+        assert_eq!(self.outcome, other.outcome, "{what}: other answers");
+        assert_eq!(self.taken, other.taken, "{what}: other sums of bytes taken");
+        assert!(self.tables.equal(&other.tables), "{what}: other tables");
+    }
+}
+
+pub fn check(plan: &Plan, bytes: &[u8], slip: Slip) {
+    let reading = plain::read(bytes, plan.sizes, slip);
+    let pieces = plan.pieces(bytes.len());
+    // The fast form gives feedback, for it is cut where the library is cut.
+    feed::<Resume>(plan, bytes, &reading, &pieces, slip);
+    let fed = feed::<Archive>(plan, bytes, &reading, &pieces, slip);
+    let otherwise = feed::<Archive>(plan, bytes, &reading, &plan.other_pieces(bytes.len()), slip);
+    fed.must_equal(&otherwise, "cut otherwise");
+    at_once::<Whole>(plan, bytes, &reading, slip);
+    fed.must_equal(&at_once::<Archive>(plan, bytes, &reading, slip), "read at once");
+    if fed.outcome.answer == FINISHED {
+        round_trip(&fed, bytes);
+    }
+}
+
+/// Demand 3: a second input that agrees at each bearing byte of the first, cut in its own way.
+pub fn check_twin(plan: &Plan, bytes: &[u8], slip: Slip) {
+    let reading = plain::read(bytes, plan.sizes, slip);
+    let map = bearing(bytes, plan.sizes, &reading);
+    let mut random = Random::seeded(plan.edits.first().map_or(plan.whim as u64, |edit| edit.value));
+    let mut twin = bytes.to_vec();
+    // In a sea, enough bytes at both ends: going over millions would slow the fuzzer down.
+    const ENDS: usize = 5000;
+    let middle = ENDS..bytes.len().saturating_sub(ENDS).max(ENDS);
+    for at in (0..bytes.len()).filter(|at| !middle.contains(at)) {
+        if !map[at] && !random.once_in(4) {
+            twin[at] = random.draw() as u8;
+        }
+    }
+    let again = plain::read(&twin, plan.sizes, slip);
+    assert_eq!(reading, again, "the judge reads the twin otherwise: the map or the judge is wrong");
+    let one = feed::<Archive>(plan, bytes, &reading, &plan.pieces(bytes.len()), slip);
+    let two = feed::<Archive>(plan, &twin, &again, &plan.other_pieces(twin.len()), slip);
+    one.must_equal(&two, "twin");
+    one.must_equal(&at_once::<Archive>(plan, &twin, &again, slip), "twin at once");
+}
+
+/// Feeds the pieces, finishes, and calls on behind the end; the judge hears the same calls.
+pub fn feed<F: Feeds>(plan: &Plan, bytes: &[u8], reading: &Reading, pieces: &[usize], slip: Slip) -> Shown {
+    let (mut paper, mut found) = (Tables::default(), Tables::default());
+    paper.prepare(plan.sizes);
+    found.prepare(plan.sizes);
+    let mut model = Feeding::fresh(reading, &mut paper.lent(), slip);
+    let mut state = F::fresh(&mut found.lent());
+    assert!(found.equal(&paper), "{}: fresh start: other tables", F::NAME);
+    assert!(found.is_zero(), "{}: a fresh start leaves a number", F::NAME);
+
+    let misused = plan.whim as usize % (pieces.len() + 3);
+    let mut at = 0;
+    let mut taken = 0;
+    for (call, &piece) in pieces.iter().enumerate() {
+        if call == misused {
+            misuse::<F>(plan, state, &bytes[at..at + piece], &mut model, &mut paper, &mut found);
+        }
+        let said = model.push(piece, &mut paper.lent());
+        let (returned, outcome) = F::push(state, &bytes[at..at + piece], &mut found.lent());
+        compare::<F>("piece", said, outcome, &paper, &found);
+        demand_1(&outcome, piece, &found);
+        if piece == 0 && outcome.answer == MORE {
+            assert!(returned == state, "{}: an empty piece changes the state", F::NAME);
+        }
+        state = returned;
+        taken += outcome.taken;
+        at += piece;
+    }
+
+    let said = model.end(&mut paper.lent());
+    let (returned, ended) = F::end(state, &mut found.lent());
+    state = returned;
+    compare::<F>("finish", said, ended, &paper, &found);
+    demand_1(&ended, 0, &found);
+    assert_ne!(ended.answer, MORE, "{}: more wanted after finishing", F::NAME);
+
+    // An ended reading takes no more and repeats its answer.
+    if misused >= pieces.len() {
+        misuse::<F>(plan, state, bytes, &mut model, &mut paper, &mut found);
+    }
+    let behind = &bytes[..bytes.len().min(40)];
+    let said = model.push(behind.len(), &mut paper.lent());
+    let (returned, repeated) = F::push(state, behind, &mut found.lent());
+    compare::<F>("piece behind the end", said, repeated, &paper, &found);
+    assert_eq!(repeated, ended, "{}: an ended reading doesn't repeat", F::NAME);
+    assert!(returned == state, "{}: an ended reading's state changes", F::NAME);
+    let (returned, repeated) = F::end(state, &mut found.lent());
+    assert_eq!(repeated, ended, "{}: finishing again doesn't repeat", F::NAME);
+    assert!(returned == state, "{}: an ended reading's state changes", F::NAME);
+    assert!(found.equal(&paper), "{}: finishing again: other tables", F::NAME);
+
+    if ended.answer == FINISHED {
+        nothing_behind(&ended.head, &found);
+    }
+    Shown { outcome: ended, taken, tables: found }
+}
+
+/// A call with tables of another size: 10, and nothing is touched.
+fn misuse<F: Feeds>(
+    plan: &Plan,
+    state: F::State,
+    piece: &[u8],
+    model: &mut Feeding,
+    paper: &mut Tables,
+    found: &mut Tables,
+) {
+    let table = plan.whim as usize / 8 % 3;
+    let mut sizes = plan.sizes;
+    // By one number or by a record, more or less; a size of 0 can only grow.
+    let step = if plan.whim & 64 == 0 { 1 } else { WIDTHS[table] };
+    sizes[table] = if plan.whim & 128 == 0 || sizes[table] < step { sizes[table] + step } else { sizes[table] - step };
+    let said = model.push(piece.len(), &mut paper.lent_of(sizes));
+    let (returned, outcome) = F::push(state, piece, &mut found.lent_of(sizes));
+    compare::<F>("tables of another size", said, outcome, paper, found);
+    assert_eq!(outcome, Outcome::headless(10, 0, 0), "{}: tables of another size", F::NAME);
+    assert!(returned == state, "{}: 10 changes the state", F::NAME);
+    let (returned, outcome) = F::end(state, &mut found.lent_of(sizes));
+    assert_eq!(outcome, Outcome::headless(10, 0, 0), "{}: finishing with tables of another size", F::NAME);
+    assert!(returned == state, "{}: 10 changes the state", F::NAME);
+    assert!(found.equal(paper), "{}: 10 touches the tables", F::NAME);
+}
+
+fn compare<F: Feeds>(call: &str, said: Outcome, outcome: Outcome, paper: &Tables, found: &Tables) {
+    assert_eq!(outcome, said, "{}: {call}: found, and what the judge says", F::NAME);
+    assert!(found.equal(paper), "{}: {call}: other tables than the judge's", F::NAME);
+}
+
+/// A finished reading, a wish for more or a numbered refusal; after refusals 1 to 9 every number is 0.
+pub fn demand_1(outcome: &Outcome, given: usize, tables: &Tables) {
+    assert!(tables.guards_stand(), "a number outside the tables was touched");
+    assert!(matches!(outcome.answer, 0..=11 | MORE), "no such answer: {}", outcome.answer);
+    assert!(outcome.taken <= given, "more taken than given");
+    if outcome.answer != FINISHED {
+        assert_eq!(outcome.head, [0; 7], "head numbers without a finished reading");
+    }
+    if matches!(outcome.answer, FINISHED | MORE | 10 | 11) {
+        assert_eq!(outcome.place, 0, "a place where there is none");
+    }
+    if outcome.answer == MORE {
+        assert_eq!(outcome.taken, given, "more wanted, but the piece isn't taken entire");
+    }
+    if outcome.is_refused_reading() {
+        assert!(tables.is_zero(), "a refusal leaves a number in the tables");
+    }
+}
+
+/// Nothing of a former transaction stands behind the last record.
+fn nothing_behind(head: &Head, tables: &Tables) {
+    for (table, width) in WIDTHS.iter().enumerate() {
+        let behind = &tables.table(table)[head[2 + table] as usize * width..];
+        assert!(behind.iter().all(|&number| number == 0), "a number stands behind the last record");
+    }
+}
+
+/// At once and strictly; gives what the form that isn't strict shows.
+pub fn at_once<R: Reads>(plan: &Plan, bytes: &[u8], reading: &Reading, slip: Slip) -> Shown {
+    let mut shown = Vec::new();
+    for strict in [false, true] {
+        let (mut paper, mut found) = (Tables::default(), Tables::default());
+        paper.prepare(plan.sizes);
+        found.prepare(plan.sizes);
+        let said = plain::read_at_once(reading, bytes.len(), &mut paper.lent(), strict, slip);
+        let outcome = R::read(bytes, &mut found.lent(), strict);
+        assert_eq!(outcome, said, "{}: at once, strict {strict}: found, and what the judge says", R::NAME);
+        assert!(found.equal(&paper), "{}: at once, strict {strict}: other tables than the judge's", R::NAME);
+        demand_1(&outcome, bytes.len(), &found);
+        assert!(!matches!(outcome.answer, MORE | 10 | 11), "{}: at once: {}", R::NAME, outcome.answer);
+        shown.push(Shown { outcome, taken: outcome.taken, tables: found });
+    }
+    let (strictly, plainly) = (shown.pop().expect("two readings"), shown.pop().expect("two readings"));
+    let follows = plainly.outcome.answer == FINISHED && plainly.taken < bytes.len();
+    if follows {
+        let nine = Outcome::headless(9, plainly.taken, plainly.taken);
+        assert_eq!(strictly.outcome, nine, "{}: bytes follow", R::NAME);
+    } else {
+        strictly.must_equal(&plainly, "strictly");
+    }
+    // Of fed pieces the last call finishes and takes nothing.
+    Shown { outcome: Outcome { taken: 0, ..plainly.outcome }, ..plainly }
+}
+
+const BLANK: u8 = 0xc3;
+const GUARD: usize = 16;
+
+/// Demand 2: written back over the same bytes, a finished reading gives the same bytes, in exactly their room.
+fn round_trip(shown: &Shown, bytes: &[u8]) {
+    let head = &shown.outcome.head;
+    let length = head[6] as usize;
+    assert_eq!(length, shown.taken, "the length in bytes is not the bytes taken");
+    let order = Order {
+        head,
+        inputs: shown.tables.table(INPUTS),
+        outputs: shown.tables.table(OUTPUTS),
+        items: shown.tables.table(ITEMS),
+        source: bytes,
+    };
+    let whole = Written { answer: FINISHED, place: 0, length };
+    assert_eq!(Archive::written_length(&order), whole, "length of what was read");
+    let mut output = vec![BLANK; length + GUARD];
+    let short = Archive::write(&order, &mut output[..length - 1]);
+    assert_eq!(short, Written { answer: 14, place: 0, length: 0 }, "one byte of room less");
+    assert!(output.iter().all(|&byte| byte == BLANK), "a refused write touches the output");
+    for room in [length, length + GUARD / 2] {
+        output.fill(BLANK);
+        assert_eq!(Archive::write(&order, &mut output[..room]), whole, "written back");
+        assert!(output[..length] == bytes[..length], "written back, other bytes come out");
+        assert!(output[length..].iter().all(|&byte| byte == BLANK), "bytes behind the written ones change");
+    }
+    for record in shown.tables.table(OUTPUTS).chunks_exact(OUTPUT) {
+        let record: &[u32; OUTPUT] = record.try_into().expect("a whole record");
+        assert_eq!(Archive::is_fee(record), record[9] == 0, "the fee question");
+    }
+}
+
+/// The ending's head, or as much of it as a reading that hasn't finished tells.
+pub fn head_of(reading: &Reading, bytes: &[u8]) -> Head {
+    if let Ending::Finished(head) = reading.ending {
+        return head;
+    }
+    let mut head = [0; 7];
+    head[1] = bytes.get(4).map_or(0, |&flag| (flag & 1) as u32);
+    for entry in &reading.entries {
+        let records = (entry.index / WIDTHS[entry.table] + 1) as u32;
+        head[2 + entry.table] = head[2 + entry.table].max(records);
+    }
+    head
+}
