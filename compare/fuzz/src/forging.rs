@@ -90,6 +90,7 @@ fn one_call(state: &State, piece: Option<&[u8]>, tables: &mut Tables) -> (State,
     let mut before = Tables::default();
     before.copy(tables);
     let (returned, outcome) = call(tables);
+    assert!(tables.guards_stand(), "a number outside the tables was touched");
     demand_1(&outcome, piece.map_or(0, <[u8]>::len), tables);
     assert_ne!(outcome.answer, 9, "only the strict form gives 9");
     if matches!(outcome.answer, 10 | 11) {

@@ -7,10 +7,12 @@
 //! - [`reading`]: reading in pieces, cut otherwise and at once; the round trip; the twin that differs in what is not bearing.
 //! - [`writing`]: tables with numbers changed, handed to the writer.
 //! - [`forging`]: states with numbers changed, handed to the reader.
+//! - [`mutate`]: mutations that know the layout.
 //! - [`bearing`]: which bytes are bearing. [`range`]: docs/STATE.md's range test.
 
 pub mod bearing;
 pub mod forging;
+pub mod mutate;
 pub mod plan;
 pub mod range;
 pub mod reading;

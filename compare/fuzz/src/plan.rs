@@ -2,19 +2,20 @@
 //!
 //! | Bytes | What |
 //! |---|---|
-//! | 0 | mode, modulo 4: read, write, forge, twin |
+//! | 0 | mode, modulo 4: read, write, forge, twin; 252 or above: with a sea |
 //! | 1 to 6 | the tables' sizes in numbers, two bytes each, modulo 1024 |
 //! | 7, 8 | length of the first piece |
 //! | 9 to 12 | lengths of the further pieces, taken in turn; all 0: the rest is one piece |
 //! | 13 | length of every piece of another cutting; 0: one piece |
-//! | 14, 15 | stretch: so many bytes at the transaction's end come after a sea of zero bytes; 0: no sea |
-//! | 16, 17 | with a sea, the bytes' number less 4,000,000, signed |
+//! | 14, 15 | with a sea: so many bytes at the transaction's end come after a sea of zero bytes |
+//! | 16, 17 | with a sea: the bytes' number less 4,000,000, signed |
 //! | 18 | whim: which call meets tables of another size, and which size |
 //! | 19 | edits, modulo 25 |
 //! | then | the edits, 11 bytes each |
 //! | then | the transaction |
 //!
-//! Numbers are little-endian. The sea lets a short input reach the limit, which no fuzzer would by itself.
+//! Numbers are little-endian. The sea lets a short input reach the limit, which no fuzzer would by itself; it is rare because
+//! it is slow.
 
 use compare::paper::*;
 use std::cell::RefCell;
@@ -59,8 +60,10 @@ pub struct Plan {
     pub first: u16,
     pub turns: [u8; 4],
     pub other: u8,
-    /// Bytes behind the sea, and the number of all bytes less the limit.
-    pub stretch: u16,
+    pub sea: bool,
+    /// Bytes behind the sea.
+    pub behind: u16,
+    /// The number of all bytes less the limit.
     pub excess: i16,
     pub whim: u8,
     pub edits: Vec<Edit>,
@@ -70,6 +73,7 @@ pub struct Plan {
 const HEADER: usize = 20;
 const EDIT: usize = 11;
 const MOST_EDITS: usize = 25;
+const WITH_SEA: u8 = 252;
 /// A table's size stays below this.
 pub const SIZES: usize = 1024;
 /// More pieces than these are handed in as one: each costs a comparison of all tables.
@@ -99,7 +103,8 @@ impl Plan {
             first: pair(7),
             turns: [header[9], header[10], header[11], header[12]],
             other: header[13],
-            stretch: pair(14),
+            sea: header[0] >= WITH_SEA,
+            behind: pair(14),
             excess: pair(16) as i16,
             whim: header[18],
             edits: edits.collect(),
@@ -109,14 +114,14 @@ impl Plan {
 
     /// The fuzz input that is split into this plan.
     pub fn input(&self) -> Vec<u8> {
-        let mut input = vec![self.mode as u8];
+        let mut input = vec![self.mode as u8 + if self.sea { WITH_SEA } else { 0 }];
         for size in self.sizes {
             input.extend((size as u16).to_le_bytes());
         }
         input.extend(self.first.to_le_bytes());
         input.extend(self.turns);
         input.push(self.other);
-        input.extend(self.stretch.to_le_bytes());
+        input.extend(self.behind.to_le_bytes());
         input.extend(self.excess.to_le_bytes());
         input.push(self.whim);
         input.push(self.edits.len() as u8);
@@ -129,12 +134,12 @@ impl Plan {
         input
     }
 
-    /// Hands over the transaction's bytes, stretched if the plan says so.
+    /// Hands over the transaction's bytes, with a sea if the plan says so.
     pub fn with_bytes<T>(&self, call: impl FnOnce(&[u8]) -> T) -> T {
-        if self.stretch == 0 || self.transaction.is_empty() {
+        if !self.sea {
             return call(&self.transaction);
         }
-        let behind = 1 + (self.stretch as usize - 1) % self.transaction.len();
+        let behind = (self.behind as usize).min(self.transaction.len());
         let (front, back) = self.transaction.split_at(self.transaction.len() - behind);
         let length = LIMIT.saturating_add_signed(self.excess as isize);
         ZEROS.with_borrow_mut(|zeros| {

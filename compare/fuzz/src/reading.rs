@@ -1,7 +1,7 @@
 //! Reading: agreement with the judge after every call, and the demands by themselves.
 
 use crate::bearing::bearing;
-use crate::plan::Plan;
+use crate::plan::{Plan, SIZES};
 use compare::archive::Archive;
 use compare::drive::{Feeds, Reads, Resume, Tables, Whole, Writes};
 use compare::generate::Random;
@@ -45,10 +45,11 @@ pub fn check_twin(plan: &Plan, bytes: &[u8], slip: Slip) {
     let map = bearing(bytes, plan.sizes, &reading);
     let mut random = Random::seeded(plan.edits.first().map_or(plan.whim as u64, |edit| edit.value));
     let mut twin = bytes.to_vec();
-    // In a sea, enough bytes at both ends: going over millions would slow the fuzzer down.
+    // Of a sea only the two ends: going over millions of bytes would slow the fuzzer down.
     const ENDS: usize = 5000;
-    let middle = ENDS..bytes.len().saturating_sub(ENDS).max(ENDS);
-    for at in (0..bytes.len()).filter(|at| !middle.contains(at)) {
+    let front = ENDS.min(bytes.len());
+    let back = bytes.len().saturating_sub(ENDS).max(front);
+    for at in (0..front).chain(back..bytes.len()) {
         if !map[at] && !random.once_in(4) {
             twin[at] = random.draw() as u8;
         }
@@ -69,12 +70,17 @@ pub fn feed<F: Feeds>(plan: &Plan, bytes: &[u8], reading: &Reading, pieces: &[us
     let mut model = Feeding::fresh(reading, &mut paper.lent(), slip);
     let mut state = F::fresh(&mut found.lent());
     assert!(found.equal(&paper), "{}: fresh start: other tables", F::NAME);
-    assert!(found.is_zero(), "{}: a fresh start leaves a number", F::NAME);
+    assert!(all_zero(&found), "{}: a fresh start leaves a number", F::NAME);
 
     let misused = plan.whim as usize % (pieces.len() + 3);
     let mut at = 0;
     let mut taken = 0;
+    let mut repeats = 0;
     for (call, &piece) in pieces.iter().enumerate() {
+        if repeats == 3 {
+            // It has ended and said so often enough.
+            break;
+        }
         if call == misused {
             misuse::<F>(plan, state, &bytes[at..at + piece], &mut model, &mut paper, &mut found);
         }
@@ -85,6 +91,7 @@ pub fn feed<F: Feeds>(plan: &Plan, bytes: &[u8], reading: &Reading, pieces: &[us
         if piece == 0 && outcome.answer == MORE {
             assert!(returned == state, "{}: an empty piece changes the state", F::NAME);
         }
+        repeats += (outcome.answer != MORE) as usize;
         state = returned;
         taken += outcome.taken;
         at += piece;
@@ -143,6 +150,7 @@ fn misuse<F: Feeds>(
     assert!(found.equal(paper), "{}: 10 touches the tables", F::NAME);
 }
 
+/// The guards about the tables are compared with them.
 fn compare<F: Feeds>(call: &str, said: Outcome, outcome: Outcome, paper: &Tables, found: &Tables) {
     assert_eq!(outcome, said, "{}: {call}: found, and what the judge says", F::NAME);
     assert!(found.equal(paper), "{}: {call}: other tables than the judge's", F::NAME);
@@ -150,7 +158,6 @@ fn compare<F: Feeds>(call: &str, said: Outcome, outcome: Outcome, paper: &Tables
 
 /// A finished reading, a wish for more or a numbered refusal; after refusals 1 to 9 every number is 0.
 pub fn demand_1(outcome: &Outcome, given: usize, tables: &Tables) {
-    assert!(tables.guards_stand(), "a number outside the tables was touched");
     assert!(matches!(outcome.answer, 0..=11 | MORE), "no such answer: {}", outcome.answer);
     assert!(outcome.taken <= given, "more taken than given");
     if outcome.answer != FINISHED {
@@ -163,15 +170,22 @@ pub fn demand_1(outcome: &Outcome, given: usize, tables: &Tables) {
         assert_eq!(outcome.taken, given, "more wanted, but the piece isn't taken entire");
     }
     if outcome.is_refused_reading() {
-        assert!(tables.is_zero(), "a refusal leaves a number in the tables");
+        assert!(all_zero(tables), "a refusal leaves a number in the tables");
     }
+}
+
+/// Compared with zeros as a whole: going over them one by one would be told to libFuzzer number by number, and is slow.
+static ZEROS: [u32; SIZES] = [0; SIZES];
+
+fn all_zero(tables: &Tables) -> bool {
+    (0..3).all(|table| tables.table(table) == &ZEROS[..tables.table(table).len()])
 }
 
 /// Nothing of a former transaction stands behind the last record.
 fn nothing_behind(head: &Head, tables: &Tables) {
     for (table, width) in WIDTHS.iter().enumerate() {
         let behind = &tables.table(table)[head[2 + table] as usize * width..];
-        assert!(behind.iter().all(|&number| number == 0), "a number stands behind the last record");
+        assert!(behind == &ZEROS[..behind.len()], "a number stands behind the last record");
     }
 }
 
@@ -203,7 +217,18 @@ pub fn at_once<R: Reads>(plan: &Plan, bytes: &[u8], reading: &Reading, slip: Sli
 }
 
 const BLANK: u8 = 0xc3;
-const GUARD: usize = 16;
+/// Bytes behind an output that nobody may touch.
+pub const GUARD: usize = 16;
+
+/// An output before a write.
+pub fn blank(length: usize) -> Vec<u8> {
+    vec![BLANK; length]
+}
+
+/// Whether a write has left these bytes alone. Compared as a whole, for the same reason.
+pub fn untouched(output: &[u8]) -> bool {
+    output == blank(output.len())
+}
 
 /// Demand 2: written back over the same bytes, a finished reading gives the same bytes, in exactly their room.
 fn round_trip(shown: &Shown, bytes: &[u8]) {
@@ -219,15 +244,15 @@ fn round_trip(shown: &Shown, bytes: &[u8]) {
     };
     let whole = Written { answer: FINISHED, place: 0, length };
     assert_eq!(Archive::written_length(&order), whole, "length of what was read");
-    let mut output = vec![BLANK; length + GUARD];
+    let mut output = blank(length + GUARD);
     let short = Archive::write(&order, &mut output[..length - 1]);
     assert_eq!(short, Written { answer: 14, place: 0, length: 0 }, "one byte of room less");
-    assert!(output.iter().all(|&byte| byte == BLANK), "a refused write touches the output");
+    assert!(untouched(&output), "a refused write touches the output");
     for room in [length, length + GUARD / 2] {
         output.fill(BLANK);
         assert_eq!(Archive::write(&order, &mut output[..room]), whole, "written back");
         assert!(output[..length] == bytes[..length], "written back, other bytes come out");
-        assert!(output[length..].iter().all(|&byte| byte == BLANK), "bytes behind the written ones change");
+        assert!(untouched(&output[length..]), "bytes behind the written ones change");
     }
     for record in shown.tables.table(OUTPUTS).chunks_exact(OUTPUT) {
         let record: &[u32; OUTPUT] = record.try_into().expect("a whole record");

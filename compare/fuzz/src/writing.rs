@@ -1,16 +1,13 @@
 //! Writing: the tables of a reading, with numbers changed by the plan's edits, go to the writer.
 
 use crate::plan::Plan;
-use crate::reading::head_of;
+use crate::reading::{blank, head_of, untouched, GUARD};
 use compare::archive::Archive;
 use compare::damage::Writing;
 use compare::drive::{check_writing, Bench, Reads, Tables, Writes};
 use compare::paper::*;
 use compare::plain;
 use compare::slips::Slip;
-
-const BLANK: u8 = 0xc3;
-const GUARD: usize = 16;
 
 /// What an edit changes where it changes neither a table nor one of the seven head numbers.
 const SOURCE: usize = 7;
@@ -66,20 +63,20 @@ fn demands(case: &Writing) {
     let order = case.order();
     let asked = Archive::written_length(&order);
     assert_ne!(asked.answer, 14, "the length alone is refused for room");
-    let mut output = vec![BLANK; asked.length + GUARD];
+    let mut output = blank(asked.length + GUARD);
     if asked.answer != FINISHED {
         assert_eq!(asked.length, 0, "a refusal has a length");
         assert_eq!(Archive::write(&order, &mut output), asked, "write, and the length alone");
-        assert!(output.iter().all(|&byte| byte == BLANK), "a refused write touches the output");
+        assert!(untouched(&output), "a refused write touches the output");
         return;
     }
     assert!((11..=LIMIT).contains(&asked.length), "no transaction has this length");
     assert_eq!(asked.place, 0, "a place where there is none");
     let short = Archive::write(&order, &mut output[..asked.length - 1]);
     assert_eq!(short, Written { answer: 14, place: 0, length: 0 }, "one byte of room less");
-    assert!(output.iter().all(|&byte| byte == BLANK), "a refused write touches the output");
+    assert!(untouched(&output), "a refused write touches the output");
     assert_eq!(Archive::write(&order, &mut output[..asked.length]), asked, "write, and the length alone");
-    assert!(output[asked.length..].iter().all(|&byte| byte == BLANK), "bytes behind the room change");
+    assert!(untouched(&output[asked.length..]), "bytes behind the room change");
     output.truncate(asked.length);
     read_back(case, &output);
 }
@@ -111,7 +108,7 @@ fn read_back(case: &Writing, written: &[u8]) {
         items: tables.table(ITEMS),
         source: written,
     };
-    let mut again = vec![BLANK; written.len()];
+    let mut again = blank(written.len());
     assert_eq!(Archive::write(&order, &mut again).answer, FINISHED, "what was read back isn't written");
     assert!(again == written, "what was read back is written otherwise");
 }

@@ -63,7 +63,8 @@ fn from_case(case: &Case, random: &mut Random) -> Option<Plan> {
     if front.len() + back.len() > LONGEST || back.is_empty() {
         return None;
     }
-    plan.stretch = back.len() as u16;
+    plan.sea = true;
+    plan.behind = back.len() as u16;
     plan.excess = excess;
     plan.transaction = [front, back].concat();
     Some(plan)
@@ -86,7 +87,8 @@ fn around(mode: Mode, transaction: Vec<u8>, records: [usize; 3], random: &mut Ra
         first: random.choose(&[0, 1, 5, 6, 38, 42, 50, 100, 200]),
         turns,
         other: random.choose(&[0, 1, 3, 16, 64]),
-        stretch: 0,
+        sea: false,
+        behind: 0,
         excess: 0,
         whim: random.draw() as u8,
         edits: (0..edits).map(|_| edit(random)).collect(),

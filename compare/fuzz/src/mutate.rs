@@ -1,0 +1,60 @@
+//! Mutations that know the layout: they change a transaction where its reading stands, so that the fuzzer gets past prefixes,
+//! counts and 32-byte parts in few steps. libFuzzer's own mutations do the rest.
+
+use crate::bearing::bearing;
+use crate::plan::Plan;
+use compare::generate::Random;
+use compare::paper::*;
+use compare::plain::{self, Ending};
+use compare::slips::Slip;
+
+/// Bytes that mean something somewhere: prefixes, flags, what announces a longer count, the highest bits.
+const TELLING: [u8; 18] = [0, 0, 1, 1, 2, 3, 4, 8, 9, 10, 11, 12, 64, 128, 252, 253, 254, 255];
+
+/// Changes the input, or says that libFuzzer should.
+pub fn mutate(input: &mut Vec<u8>, most: usize, random: &mut Random) -> bool {
+    let Some(mut plan) = Plan::of(input) else { return false };
+    // A sea's transaction can't be read without the sea.
+    if plan.sea || random.once_in(2) {
+        return false;
+    }
+    let reading = plain::read(&plan.transaction, plan.sizes, Slip::None);
+    let bytes = &mut plan.transaction;
+    if random.once_in(3) {
+        // Any bearing byte.
+        let map = bearing(bytes, plan.sizes, &reading);
+        let places: Vec<usize> = (0..bytes.len()).filter(|&at| map[at]).collect();
+        if !places.is_empty() {
+            bytes[random.choose(&places)] = random.choose(&TELLING);
+        }
+    } else {
+        match reading.ending {
+            Ending::Refused(refusal) if refusal.number == 4 => {
+                let table = random.below(3);
+                plan.sizes[table] += WIDTHS[table];
+            }
+            Ending::Refused(refusal) => {
+                let at = random.choose(&[refusal.place, reading.taken - 1]).min(bytes.len() - 1);
+                bytes[at] = random.choose(&TELLING);
+            }
+            Ending::More(..) => {
+                for _ in 0..random.choose(&[1, 2, 4, 8, PART, 40]) {
+                    bytes.push(random.choose(&TELLING));
+                }
+            }
+            Ending::Finished(_) => {
+                // What follows isn't read, and a flag makes witnesses wanted.
+                bytes.truncate(reading.taken);
+                if random.once_in(2) {
+                    bytes[4] ^= 1;
+                }
+            }
+        }
+    }
+    let changed = plan.input();
+    if changed.len() > most {
+        return false;
+    }
+    *input = changed;
+    true
+}
