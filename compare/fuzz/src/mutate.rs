@@ -2,7 +2,7 @@
 //! counts and 32-byte parts in few steps. libFuzzer's own mutations do the rest.
 
 use crate::bearing::bearing;
-use crate::plan::Plan;
+use crate::plan::{Edit, Mode, Plan, MOST_EDITS};
 use compare::generate::Random;
 use compare::paper::*;
 use compare::plain::{self, Ending};
@@ -17,6 +17,10 @@ pub fn mutate(input: &mut Vec<u8>, most: usize, random: &mut Random) -> bool {
     // A sea's transaction can't be read without the sea.
     if plan.sea || random.once_in(2) {
         return false;
+    }
+    if matches!(plan.mode, Mode::Write | Mode::Forge) && random.once_in(2) {
+        change_edit(&mut plan, random);
+        return put(input, &plan, most);
     }
     let reading = plain::read(&plan.transaction, plan.sizes, Slip::None);
     let bytes = &mut plan.transaction;
@@ -51,10 +55,40 @@ pub fn mutate(input: &mut Vec<u8>, most: usize, random: &mut Random) -> bool {
             }
         }
     }
+    put(input, &plan, most)
+}
+
+fn put(input: &mut Vec<u8>, plan: &Plan, most: usize) -> bool {
     let changed = plan.input();
     if changed.len() > most {
         return false;
     }
     *input = changed;
     true
+}
+
+/// Another edit, or one more: of a number of the state or of the first records, mostly to one at which some bound lies.
+fn change_edit(plan: &mut Plan, random: &mut Random) {
+    let table = random.below(3);
+    let power = 1u64 << random.below(64);
+    let (small, near, any) = (random.below(32), random.below(2), random.draw());
+    let value = random.choose(&[
+        small as u64,
+        power,
+        power - 1,
+        power.wrapping_neg(),
+        (plan.sizes[table] / WIDTHS[table] + near) as u64,
+        (LIMIT + near) as u64,
+        VOUT_END as u64 - near as u64,
+        ALL_ONES as u64 - near as u64,
+        (plan.transaction.len() + near) as u64,
+        any,
+    ]);
+    let edit = Edit { what: random.draw() as u8, index: random.below(2 * INPUT) as u16, value };
+    if plan.edits.is_empty() || plan.edits.len() < MOST_EDITS - 1 && random.once_in(3) {
+        plan.edits.push(edit);
+    } else {
+        let at = random.below(plan.edits.len());
+        plan.edits[at] = edit;
+    }
 }

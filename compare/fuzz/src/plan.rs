@@ -72,7 +72,8 @@ pub struct Plan {
 
 const HEADER: usize = 20;
 const EDIT: usize = 11;
-const MOST_EDITS: usize = 25;
+/// There are fewer edits than these.
+pub const MOST_EDITS: usize = 25;
 const WITH_SEA: u8 = 252;
 /// A table's size stays below this.
 pub const SIZES: usize = 1024;

@@ -39,27 +39,36 @@ pub fn check(plan: &Plan, bytes: &[u8], slip: Slip) {
     }
 }
 
-/// Demand 3: a second input that agrees at each bearing byte of the first, cut in its own way.
+/// Demand 3: other inputs that agree with the first at each of its bearing bytes, each cut in its own way.
 pub fn check_twin(plan: &Plan, bytes: &[u8], slip: Slip) {
     let reading = plain::read(bytes, plan.sizes, slip);
     let map = bearing(bytes, plan.sizes, &reading);
-    let mut random = Random::seeded(plan.edits.first().map_or(plan.whim as u64, |edit| edit.value));
+    let first = feed::<Archive>(plan, bytes, &reading, &plan.pieces(bytes.len()), slip);
+    // Another plan changes the bytes otherwise: the seed is a hash of all of it.
+    let seed = plan.input().iter().fold(0, |hash: u64, &byte| (hash ^ byte as u64).wrapping_mul(0x0100_0000_01b3));
+    let mut random = Random::seeded(seed);
     let mut twin = bytes.to_vec();
-    // Of a sea only the two ends: going over millions of bytes would slow the fuzzer down.
+    // No feedback leads to the byte that would move something: so several twins, but where they are millions of bytes long.
+    for _ in 0..if plan.sea { 1 } else { 8 } {
+        change(&mut twin, &map, &mut random);
+        let again = plain::read(&twin, plan.sizes, slip);
+        assert_eq!(reading, again, "the judge reads the twin otherwise: the map or the judge is wrong");
+        let fed = feed::<Archive>(plan, &twin, &again, &plan.other_pieces(twin.len()), slip);
+        first.must_equal(&fed, "twin");
+        first.must_equal(&at_once::<Archive>(plan, &twin, &again, slip), "twin at once");
+    }
+}
+
+/// Changes bytes that aren't bearing; of a sea only the two ends, because going over millions is slow.
+fn change(twin: &mut [u8], map: &[bool], random: &mut Random) {
     const ENDS: usize = 5000;
-    let front = ENDS.min(bytes.len());
-    let back = bytes.len().saturating_sub(ENDS).max(front);
-    for at in (0..front).chain(back..bytes.len()) {
+    let front = ENDS.min(twin.len());
+    let back = twin.len().saturating_sub(ENDS).max(front);
+    for at in (0..front).chain(back..twin.len()) {
         if !map[at] && !random.once_in(4) {
             twin[at] = random.draw() as u8;
         }
     }
-    let again = plain::read(&twin, plan.sizes, slip);
-    assert_eq!(reading, again, "the judge reads the twin otherwise: the map or the judge is wrong");
-    let one = feed::<Archive>(plan, bytes, &reading, &plan.pieces(bytes.len()), slip);
-    let two = feed::<Archive>(plan, &twin, &again, &plan.other_pieces(twin.len()), slip);
-    one.must_equal(&two, "twin");
-    one.must_equal(&at_once::<Archive>(plan, &twin, &again, slip), "twin at once");
 }
 
 /// Feeds the pieces, finishes, and calls on behind the end; the judge hears the same calls.
@@ -108,10 +117,18 @@ pub fn feed<F: Feeds>(plan: &Plan, bytes: &[u8], reading: &Reading, pieces: &[us
     if misused >= pieces.len() {
         misuse::<F>(plan, state, bytes, &mut model, &mut paper, &mut found);
     }
+    // A refused one zeroes its tables again whatever the caller did to them; a finished one leaves them.
+    scribble(&mut paper);
+    scribble(&mut found);
     let behind = &bytes[..bytes.len().min(40)];
     let said = model.push(behind.len(), &mut paper.lent());
     let (returned, repeated) = F::push(state, behind, &mut found.lent());
     compare::<F>("piece behind the end", said, repeated, &paper, &found);
+    demand_1(&repeated, behind.len(), &found);
+    if repeated.answer == FINISHED {
+        scribble(&mut paper);
+        scribble(&mut found);
+    }
     assert_eq!(repeated, ended, "{}: an ended reading doesn't repeat", F::NAME);
     assert!(returned == state, "{}: an ended reading's state changes", F::NAME);
     let (returned, repeated) = F::end(state, &mut found.lent());
@@ -123,6 +140,16 @@ pub fn feed<F: Feeds>(plan: &Plan, bytes: &[u8], reading: &Reading, pieces: &[us
         nothing_behind(&ended.head, &found);
     }
     Shown { outcome: ended, taken, tables: found }
+}
+
+/// Alters each table's last number; done twice, it is as before.
+fn scribble(tables: &mut Tables) {
+    let lent = tables.lent();
+    for table in [lent.inputs, lent.outputs, lent.items] {
+        if let Some(last) = table.last_mut() {
+            *last ^= 0x5a;
+        }
+    }
 }
 
 /// A call with tables of another size: 10, and nothing is touched.
