@@ -5,21 +5,27 @@
 
 use crate::plan::{Edit, Plan};
 use crate::range::{self, in_range};
+use crate::reached;
 use crate::reading::demand_1;
 use compare::archive::{Archive, State, STATE};
 use compare::drive::{Feeds, Tables};
 use compare::paper::*;
 
 pub fn check(plan: &Plan, bytes: &[u8]) {
+    let (state, mut tables, rest) = case_of(plan, bytes);
+    hand_in_with_other_sizes(plan, &state, &tables);
+    talk(plan, state, rest, &mut tables);
+}
+
+/// The forged state, the tables as the true one left them, and the bytes that come next.
+pub fn case_of<'a>(plan: &Plan, bytes: &'a [u8]) -> (State, Tables, &'a [u8]) {
     let mut tables = Tables::default();
     tables.prepare(plan.sizes);
     let state = Archive::fresh(&mut tables.lent());
     let (front, rest) = bytes.split_at((plan.first as usize).min(bytes.len()));
     let (state, _) = Archive::push(state, front, &mut tables.lent());
     assert!(in_range(&state), "a true state fails the range test");
-    let state = forged(state, &plan.edits, plan.sizes);
-    hand_in_with_other_sizes(plan, &state, &tables);
-    talk(plan, state, rest, &mut tables);
+    (forged(state, &plan.edits, plan.sizes), tables, rest)
 }
 
 /// The state with its numbers changed.
@@ -56,6 +62,7 @@ fn talk(plan: &Plan, mut state: State, rest: &[u8], tables: &mut Tables) {
     };
     for call in calls {
         let (returned, outcome) = one_call(&state, call, tables);
+        reached::forged(&state, outcome.answer);
         if !trusted {
             assert_eq!(outcome, Outcome::headless(11, 0, 0), "a state out of range isn't refused with 11: {state:?}");
             return;

@@ -7,7 +7,7 @@
 //! - [`reading`]: reading in pieces, cut otherwise and at once; the round trip; the twin that differs in what is not bearing.
 //! - [`writing`]: tables with numbers changed, handed to the writer.
 //! - [`forging`]: states with numbers changed, handed to the reader.
-//! - [`mutate`]: mutations that know the layout.
+//! - [`mutate`]: mutations that know the layout. [`reached`]: feedback besides the compiler's.
 //! - [`bearing`]: which bytes are bearing. [`range`]: docs/STATE.md's range test.
 
 pub mod bearing;
@@ -15,6 +15,7 @@ pub mod forging;
 pub mod mutate;
 pub mod plan;
 pub mod range;
+pub mod reached;
 pub mod reading;
 pub mod writing;
 

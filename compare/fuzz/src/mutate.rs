@@ -14,9 +14,18 @@ const TELLING: [u8; 18] = [0, 0, 1, 1, 2, 3, 4, 8, 9, 10, 11, 12, 64, 128, 252, 
 /// Changes the input, or says that libFuzzer should.
 pub fn mutate(input: &mut Vec<u8>, most: usize, random: &mut Random) -> bool {
     let Some(mut plan) = Plan::of(input) else { return false };
-    // A sea's transaction can't be read without the sea.
-    if plan.sea || random.once_in(2) {
+    if random.once_in(2) {
         return false;
+    }
+    if plan.sea {
+        // Its transaction can't be read without the sea; but the limit can be moved by a few bytes.
+        plan.excess = plan.excess.wrapping_add(random.below(81) as i16 - 40);
+        return put(input, &plan, most);
+    }
+    if plan.mode == Mode::Forge && random.once_in(4) {
+        // How far the true reading goes.
+        plan.first = random.below(plan.transaction.len() + 1) as u16;
+        return put(input, &plan, most);
     }
     if matches!(plan.mode, Mode::Write | Mode::Forge) && random.once_in(2) {
         change_edit(&mut plan, random);

@@ -2,6 +2,7 @@
 
 use crate::bearing::bearing;
 use crate::plan::{Plan, SIZES};
+use crate::reached;
 use compare::archive::Archive;
 use compare::drive::{Feeds, Reads, Resume, Tables, Whole, Writes};
 use compare::generate::Random;
@@ -26,6 +27,8 @@ impl Shown {
 
 pub fn check(plan: &Plan, bytes: &[u8], slip: Slip) {
     let reading = plain::read(bytes, plan.sizes, slip);
+    reached::ending(&reading);
+    stages(plan, bytes);
     let pieces = plan.pieces(bytes.len());
     // The fast form gives feedback, for it is cut where the library is cut.
     feed::<Resume>(plan, bytes, &reading, &pieces, slip);
@@ -36,6 +39,23 @@ pub fn check(plan: &Plan, bytes: &[u8], slip: Slip) {
     fed.must_equal(&at_once::<Archive>(plan, bytes, &reading, slip), "read at once");
     if fed.outcome.answer == FINISHED {
         round_trip(&fed, bytes);
+    }
+}
+
+/// Feeds the pieces once more, only to see where each leaves the library.
+fn stages(plan: &Plan, bytes: &[u8]) {
+    let mut tables = Tables::default();
+    tables.prepare(plan.sizes);
+    let mut state = Archive::fresh(&mut tables.lent());
+    let mut at = 0;
+    for piece in plan.pieces(bytes.len()) {
+        let outcome;
+        (state, outcome) = Archive::push(state, &bytes[at..at + piece], &mut tables.lent());
+        reached::state(&state);
+        if outcome.answer != MORE {
+            break;
+        }
+        at += piece;
     }
 }
 

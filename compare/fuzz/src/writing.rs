@@ -1,6 +1,7 @@
 //! Writing: the tables of a reading, with numbers changed by the plan's edits, go to the writer.
 
 use crate::plan::Plan;
+use crate::reached;
 use crate::reading::{blank, head_of, untouched, GUARD};
 use compare::archive::Archive;
 use compare::damage::Writing;
@@ -14,7 +15,8 @@ const SOURCE: usize = 7;
 const ROOM: usize = 8;
 
 pub fn check(plan: &Plan, bytes: &[u8], slip: Slip) {
-    let case = writing(plan, bytes, slip);
+    let case = case_of(plan, bytes, slip);
+    reached::written(plain::write(&case.order(), &mut blank(case.room), slip).1);
     // Agreement with the judge in answer, place, length and every byte of the output; the fee question.
     let mut bench = Bench::default();
     if let Err(difference) = check_writing(&case, &mut bench, slip) {
@@ -24,7 +26,7 @@ pub fn check(plan: &Plan, bytes: &[u8], slip: Slip) {
 }
 
 /// The order that the plan describes. A reading that was refused or wants more gives what it had entered.
-fn writing(plan: &Plan, bytes: &[u8], slip: Slip) -> Writing {
+pub fn case_of(plan: &Plan, bytes: &[u8], slip: Slip) -> Writing {
     let reading = plain::read(bytes, plan.sizes, slip);
     let mut case = Writing { head: head_of(&reading, bytes), source: bytes.to_vec(), ..Writing::default() };
     for table in 0..3 {

@@ -84,7 +84,7 @@ fn around(mode: Mode, transaction: Vec<u8>, records: [usize; 3], random: &mut Ra
     Plan {
         mode,
         sizes: [0, 1, 2].map(|table| records[table] * WIDTHS[table]),
-        first: random.choose(&[0, 1, 5, 6, 38, 42, 50, 100, 200]),
+        first: random.choose(&[0, 1, 5, 6, 38, 42, 50, 100, 200, 400, 1000]),
         turns,
         other: random.choose(&[0, 1, 3, 16, 64]),
         sea: false,

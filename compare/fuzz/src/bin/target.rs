@@ -20,17 +20,21 @@ fn slip() -> Slip {
     })
 }
 
+/// # Safety
+/// libFuzzer hands over so many bytes.
 #[no_mangle]
-pub extern "C" fn LLVMFuzzerTestOneInput(data: *const u8, size: usize) -> i32 {
-    // SAFETY: libFuzzer hands over so many bytes; where there are none the pointer isn't looked at.
+pub unsafe extern "C" fn LLVMFuzzerTestOneInput(data: *const u8, size: usize) -> i32 {
+    // SAFETY: as said; where there are none the pointer isn't looked at.
     let input = if size == 0 { &[][..] } else { unsafe { from_raw_parts(data, size) } };
     fuzz::check(input, slip());
     0
 }
 
+/// # Safety
+/// libFuzzer hands over so many bytes, in a buffer that holds the most.
 #[no_mangle]
-pub extern "C" fn LLVMFuzzerCustomMutator(data: *mut u8, size: usize, most: usize, seed: u32) -> usize {
-    // SAFETY: libFuzzer hands over so many bytes in a buffer that holds the most.
+pub unsafe extern "C" fn LLVMFuzzerCustomMutator(data: *mut u8, size: usize, most: usize, seed: u32) -> usize {
+    // SAFETY: as said.
     let buffer = unsafe { from_raw_parts_mut(data, most) };
     let mut input = buffer[..size].to_vec();
     if !fuzz::mutate::mutate(&mut input, most, &mut Random::seeded(seed as u64)) {
