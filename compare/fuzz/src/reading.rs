@@ -62,6 +62,7 @@ fn stages(plan: &Plan, bytes: &[u8]) {
 /// Demand 3: other inputs that agree with the first at each of its bearing bytes, each cut in its own way.
 pub fn check_twin(plan: &Plan, bytes: &[u8], slip: Slip) {
     let reading = plain::read(bytes, plan.sizes, slip);
+    reached::ending(&reading);
     let map = bearing(bytes, plan.sizes, &reading);
     let first = feed::<Archive>(plan, bytes, &reading, &plan.pieces(bytes.len()), slip);
     // Another plan changes the bytes otherwise: the seed is a hash of all of it.

@@ -24,10 +24,11 @@ fn main() {
         }
     }
     let (mut made, mut case, mut sea) = (Made::default(), Case::default(), Sea::default());
-    for _ in 0..cases {
+    // Cases near the limit are rare: these are picked from many more.
+    for number in 0..20 * cases {
         made.again(&mut random);
         damage::reading_case(&mut case, &made, &mut sea, &mut random);
-        plans.extend(from_case(&case, &mut random));
+        plans.extend(from_case(&case, &mut random).filter(|plan| plan.sea || number < cases));
         damage::retire(&mut case, &mut sea);
     }
     for (number, plan) in plans.iter().enumerate() {
