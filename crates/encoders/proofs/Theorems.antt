@@ -3,20 +3,37 @@
 --     told-verdict      the enum tells 01's number, place and length
 --     head-given        the writer takes the head numbers that the reader tells
 --     written-back      what `read` finished on, `write` gives back: the same bytes
---     reads-back        what `write` wrote, `read` finishes on: the same head numbers, and tables that show the same transaction
-use Prim.Native.Nat.{ℕ, _<_, _≤_, _^_}
+--     reads-back        what `write` wrote, `read` finishes on: the same head numbers, tables that show the same transaction, the same bodies
+--     written-exactly   `write` answers a length exactly where the tables show an allowed transaction for which there is room, and writes its bytes
+--     long-exactly      `written_length` answers 2 exactly where they show one that is too long and else allowed
+--     unwritten         what `written_length` refuses, by number and place, exactly where the tables show what 01 says (layout/specs/Unwritten)
+--     refused, short    what `write` refuses: the same, and 14
+--     fee               `is_fee` says yes exactly of a script length 0
+--     position-unread   what `write` leaves is the same, whatever stands as position of a null field or of an explicit value
+use Prim.Native.Nat.{ℕ, _+_, _*_, _<_, _≤_, _^_}
 use mathlib.Core.Path.{_≡_, refl, sym, _∙_, ap, subst}
+use mathlib.Core.Logic.{_↔_, _≢_}
+use mathlib.Core.Bool.{Bool, true}
 use mathlib.Core.List.{List, _++_}
 use native.Mathlib.Omega.{arith}
-use lib.ListN.{length, take}
+use lib.ListN.{length, take, getD, set}
 use Rattle.layout.specs.Number.{Bytes}
 use Rattle.layout.specs.Layout as layout
 use Rattle.layout.specs.Transaction as transaction
-use Rattle.layout.specs.Outcome.{Tables, Outcome, partial, atOnce, readingOf, outcome, ended, finish, shown, laid, zeros}
-use Rattle.layout.specs.Writing.{faults, passes, writtenLength, Verdict, wrote, unwritten, verdictNumber, verdictPlace, verdictLength, over, contentsOf, writtenBytes, writing}
+use Rattle.layout.specs.Outcome.{Tables, change, Outcome, partial, atOnce, readingOf, outcome, ended, finish, shown, laid, zeros}
+use Rattle.layout.specs.Writing.{faults, passes, writtenLength, Verdict, wrote, verdictNumber, verdictPlace, verdictLength, over, contentsOf, writtenBytes, writing, isFee, _!_}
+use Rattle.layout.specs.Writing as layout-written
+use Rattle.layout.specs.Layout.{output}
+use Rattle.layout.specs.Contents.{Contents, contentsBytes, Allowed}
+use Rattle.layout.specs.Shows.{Shows}
+use Rattle.layout.specs.Unwritten.{WriteRefusal}
 use Rattle.layout.proofs.Theorems.{finish-finished}
 use Rattle.layout.proofs.RoundTrips.{read-then-write, Lent, Holds, lengthened, ReadsBack, write-then-read, records-agree, Wrote, written-tail, passes-of}
-use Rattle.layout.proofs.Columns.{RecordsAgree}
+use Rattle.layout.proofs.Columns.{RecordsAgree, BodiesSame}
+use Rattle.layout.proofs.Bodies.{bodies-same}
+use Rattle.layout.proofs.Accepts.{Longer, writes-exactly, shown-written, two-shown}
+use Rattle.layout.proofs.Exactly.{unwritten-exactly, answer-alike, fourteen-exactly, fee-exactly}
+use Rattle.layout.proofs.NotRead.{Unread, position-not-read}
 use Rattle.decoders.specs.declared.Head.{Head}
 use Rattle.decoders.specs.declared.Answer.{Answer}
 use Rattle.decoders.specs.declared.Answer.the-variants.{Finished, More, Refused}
@@ -24,13 +41,14 @@ use Rattle.decoders.specs.declared.Read.{Read}
 use Rattle.decoders.specs.Feeding as feeding
 use Rattle.decoders.specs.Feeding.{toldHead, readOnce, wholeOf, layoutSizes, Whole}
 use Rattle.encoders.specs.declared.Written.{Written}
+use Rattle.encoders.specs.declared.Written.the-variants as written
 use Rattle.encoders.specs.declared.Written.the-variants.{Done}
-use Rattle.encoders.proofs.Writes.{wrote-of}
+use Rattle.encoders.proofs.Writes.{wrote-of, unwritten-of}
 use Rattle.encoders.specs.Answers.{told, toldNumber, toldPlace, toldLength, headNumbers, Out, outOf, toldOut}
 
 pub told-verdict : (v : Verdict) → (toldNumber (told v) ≡ verdictNumber v) × (toldPlace (told v) ≡ verdictPlace v) × (toldLength (told v) ≡ verdictLength v)
 told-verdict (wrote n) = (refl, refl, refl)
-told-verdict (unwritten n p) = (refl, refl, refl)
+told-verdict (layout-written.unwritten n p) = (refl, refl, refl)
 
 pub head-given : (h : Head) → headNumbers h ≡ toldHead (Finished h)
 head-given h = refl
@@ -82,6 +100,7 @@ pub record SameAgain (h : Head) (t : Tables) (source : List ℕ) (n : ℕ) (r : 
   pub taken : r .taken ≡ n
   pub transaction : contentsOf (lengthened (headNumbers h) n) u xs ≡ contentsOf (headNumbers h) t source
   pub records : RecordsAgree (headNumbers h) t u
+  pub bodies : BodiesSame (headNumbers h) t u source xs
 
 pub reads-back :
     (h : Head) (t : Tables) (source out out′ : List ℕ) (n : ℕ) → Lent (headNumbers h) t source → outOf (Done n) out′ ≡ toldOut (writing (headNumbers h) t source out)
@@ -105,4 +124,66 @@ reads-back h t source out out′ n lent p u u′ rest r room q =
       taken = ap (λ (x : Whole). x .read .taken) got ∙ b .taken ∙ long;
       transaction = (λ j. contentsOf (lengthened g (sym long j)) (tables j) (same j ++ rest)) ∙ b .transaction;
       records = subst (λ (ts : Tables). RecordsAgree g t ts) (sym tables) (records-agree g t source lent ok z room rest);
+      bodies = subst (λ (l : List ℕ). BodiesSame g t u′ source (l ++ rest)) (sym same) (subst (λ (ts : Tables). BodiesSame g t ts source (bytes ++ rest)) (sym tables) (bodies-same g t source lent ok z room rest));
     }
+
+-- Tables that show an allowed transaction are written, whatever their positions; and no others.
+pub written-exactly :
+    (h : Head) (t : Tables) (source out out′ : List ℕ) (w : Written) (n : ℕ) → Lent (headNumbers h) t source → outOf w out′ ≡ toldOut (writing (headNumbers h) t source out)
+    → (w ≡ Done n) ↔ ((x : Contents) × Allowed x × Shows (headNumbers h) t source x × (length (contentsBytes x) ≡ n) × (n ≤ length out) × (out′ ≡ over (contentsBytes x) out))
+written-exactly h t source out out′ w n lent p =
+    let g = headNumbers h in
+    let e = writes-exactly g t source lent out n in
+    let same : w ≡ told (writing g t source out .answer) = ap (λ (o : Out). o .answer) p in (
+      λ d.
+          let q = e .0 (wrote-of (writing g t source out .answer) n (sym same ∙ d)) in
+          let room : length (contentsBytes (q .0)) ≤ length out = omega (arith, q .3, q .4) in
+          (q .0, q .1, q .2, q .3, q .4, ap (λ (o : Out). o .output) p ∙ ap (λ (v : layout-written.Written). v .output) (shown-written g t source (q .0) (q .1) (q .2) out room)),
+      λ q. same ∙ ap told (e .1 (q .0, q .1, q .2, q .3, q .4)),
+    )
+
+pub long-exactly :
+    (h : Head) (t : Tables) (source : List ℕ) (w : Written) → Lent (headNumbers h) t source → w ≡ told (writtenLength (headNumbers h) t source)
+    → (w ≡ written.Refused 2 0) ↔ ((x : Contents) × Longer x × Shows (headNumbers h) t source x)
+long-exactly h t source w lent p =
+    let e = two-shown (headNumbers h) t source lent in
+    (λ d. e .0 (unwritten-of (writtenLength (headNumbers h) t source) 2 0 (sym p ∙ d)), λ q. p ∙ ap told (e .1 q))
+
+pub unwritten :
+    (h : Head) (t : Tables) (source : List ℕ) (w : Written) (n p : ℕ) → w ≡ told (writtenLength (headNumbers h) t source)
+    → (w ≡ written.Refused n p) ↔ WriteRefusal (headNumbers h) t source n p
+unwritten h t source w n p e =
+    let u = unwritten-exactly (headNumbers h) t source n p in
+    (λ d. u .0 (unwritten-of (writtenLength (headNumbers h) t source) n p (sym e ∙ d)), λ q. e ∙ ap told (u .1 q))
+
+-- the answer of `write`
+refused-of : (h : Head) (t : Tables) (source out out′ : List ℕ) (w : Written) (n p : ℕ) → outOf w out′ ≡ toldOut (writing (headNumbers h) t source out) → (w ≡ written.Refused n p) ↔ (writing (headNumbers h) t source out .answer ≡ layout-written.unwritten n p)
+refused-of h t source out out′ w n p e =
+    let same : w ≡ told (writing (headNumbers h) t source out .answer) = ap (λ (o : Out). o .answer) e in
+    (λ d. unwritten-of (writing (headNumbers h) t source out .answer) n p (sym same ∙ d), λ q. same ∙ ap told q)
+
+pub refused :
+    (h : Head) (t : Tables) (source out out′ : List ℕ) (w : Written) (n p : ℕ) → n ≢ 14 → outOf w out′ ≡ toldOut (writing (headNumbers h) t source out)
+    → (w ≡ written.Refused n p) ↔ WriteRefusal (headNumbers h) t source n p
+refused h t source out out′ w n p other e =
+    let r = refused-of h t source out out′ w n p e in
+    let a = answer-alike (headNumbers h) t source n p out other in
+    let u = unwritten-exactly (headNumbers h) t source n p in
+    (λ d. u .0 (a .0 (r .0 d)), λ q. r .1 (a .1 (u .1 q)))
+
+pub short :
+    (h : Head) (t : Tables) (source out out′ : List ℕ) (w : Written) → outOf w out′ ≡ toldOut (writing (headNumbers h) t source out)
+    → (w ≡ written.Refused 14 0) ↔ ((n : ℕ) × (writtenLength (headNumbers h) t source ≡ wrote n) × (length out < n))
+short h t source out out′ w e =
+    let r = refused-of h t source out out′ w 14 0 e in
+    let f = fourteen-exactly (headNumbers h) t source out in
+    (λ d. f .0 (r .0 d), λ q. r .1 (f .1 q))
+
+pub fee : (r : List ℕ) (b : Bool) → b ≡ isFee r → (b ≡ true) ↔ (r ! 9 ≡ 0)
+fee r b e = let f = fee-exactly r in (λ d. f .0 (sym e ∙ d), λ q. e ∙ f .1 q)
+
+pub position-unread :
+    (h : Head) (t : Tables) (source out : List ℕ) (i column position : ℕ) → Unread (λ k. getD (t .outputs) (14 * i + k) 0) column
+    → (w w′ : Written) (o o′ : List ℕ) → outOf w o ≡ toldOut (writing (headNumbers h) t source out) → outOf w′ o′ ≡ toldOut (writing (headNumbers h) (change output (λ xs. set xs (14 * i + column) position) t) source out)
+    → outOf w′ o′ ≡ outOf w o
+position-unread h t source out i c p u w w′ o o′ e e′ = e′ ∙ ap toldOut (position-not-read (headNumbers h) t source out i c p u) ∙ sym e

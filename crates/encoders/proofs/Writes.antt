@@ -20,7 +20,7 @@ pub wrote-of : (v : Verdict) (n : ℕ) → told v ≡ Done n → v ≡ wrote n
 wrote-of (wrote m) n e = ap (λ (w : Written). elim w [ Done k ↦ wrote k | Refused a b ↦ wrote m ]) e
 wrote-of (unwritten a b) n e = absurd (let z : _≡_ {A = ℕ} 0 1 = ap (λ (w : Written). elim w [ Done k ↦ 1 | Refused a b ↦ 0 ]) e in omega arith)
 
-unwritten-of : (v : Verdict) (n p : ℕ) → told v ≡ Refused n p → v ≡ unwritten n p
+pub unwritten-of : (v : Verdict) (n p : ℕ) → told v ≡ Refused n p → v ≡ unwritten n p
 unwritten-of (unwritten a b) n p e = ap (λ (w : Written). elim w [ Done k ↦ unwritten a b | Refused c d ↦ unwritten c d ]) e
 unwritten-of (wrote m) n p e = absurd (let z : _≡_ {A = ℕ} 0 1 = ap (λ (w : Written). elim w [ Done k ↦ 0 | Refused a b ↦ 1 ]) e in omega arith)
 

@@ -1,22 +1,20 @@
 -- What the writer refuses nothing of is an allowed transaction.
-use Prim.Native.Nat.{ℕ, zero, suc, _+_, _-_, _*_, _/_, _%_, _^_, _<_, _≤_, min}
+use Prim.Native.Nat.{ℕ, zero, suc, _+_, _^_, _<_, _≤_}
 use mathlib.Core.Path.{_≡_, refl, sym, _∙_, ap, ap₂, subst}
 use mathlib.Core.Bool.{Bool, true, false, cond, not, _&&_, _||_}
-use mathlib.Core.List.{List, [], _∷_, _++_, append-assoc, append-nil, map}
-use mathlib.Core.Option.{Option, none, some}
-use native.Mathlib.Nat.{add-assoc, add-zero, zero-add, mul-add}
+use mathlib.Core.List.{List, [], _∷_, map}
+use mathlib.Core.Option.{none, some}
 use native.Mathlib.Omega.{arith}
-use lib.Dec.{leb, eqb, lit<}
-use lib.ListN.{length, take, drop, getD, replicate, length-append, length-take, length-drop, length-map}
+use lib.Dec.{leb, eqb}
+use lib.ListN.{length, take, drop, getD, length-drop, length-map}
 use lib.Seq.{length-take-le, getD-drop}
-use borrow.Author.Tests.{leb-true, leb-false, le-leb, lt-leb, eqb-true, eqb-false, eq-eqb, ne-eqb}
+use borrow.Author.Tests.{leb-true, leb-false, le-leb, eqb-true, eqb-false}
 use Rattle.layout.specs.Number.{Bytes}
-use Rattle.layout.specs.Layout.{input, output, item}
-use Rattle.layout.specs.Transaction.{Head, limit, assetPrefix, noncePrefix}
+use Rattle.layout.specs.Transaction.{Head, assetPrefix, noncePrefix}
 use Rattle.layout.specs.Outcome.{Tables, width}
-use Rattle.layout.specs.Contents.{Value, null, explicit, commitment, Token, absent, present, Issuance, Input, Output, InputWitness, OutputWitness, Witnesses, Contents, flagOf, Every, Fixed, ValueAllowed, TokenAllowed, isNull, IssuanceAllowed, confused, Flagged, InputAllowed, OutputAllowed, InputWitnessAllowed, OutputWitnessAllowed, inputEmpty, outputEmpty, all, WitnessesAllowed, MaybeAllowed}
+use Rattle.layout.specs.Contents.{Contents, flagOf, Every, Fixed, ValueAllowed, TokenAllowed, isNull, IssuanceAllowed, confused, Flagged, InputAllowed, OutputAllowed, InputWitnessAllowed, OutputWitnessAllowed, inputEmpty, outputEmpty, all, WitnessesAllowed, MaybeAllowed}
 use Rattle.layout.specs.Records.{itemsOf, sum, itemCount}
-use Rattle.layout.specs.Writing.{records, body, valueOf, tokenOf, valueWidth, issuanceOf, issues, inputOf, outputOf, itemOf, inputWitnessOf, outputWitnessOf, inputRecords, outputRecords, itemRecords, witnessesOf, contentsOf, Fault, passes, fault, _also_, unless, _!_, lies, valueRule, zeros₄, zeros₇, issuanceRule, inputWitnessRule, inputRule, tokenRule, outputWitnessRule, outputRule, itemRule, nullIssuance, inputFault, recordItems, inputFaults, ruleFaults, emptyInput, emptyOutput, held, tableFaults}
+use Rattle.layout.specs.Writing.{records, body, valueOf, tokenOf, valueWidth, issuanceOf, issues, inputOf, outputOf, itemOf, inputWitnessOf, outputWitnessOf, inputRecords, outputRecords, itemRecords, witnessesOf, contentsOf, passes, _also_, unless, _!_, lies, valueRule, zeros₄, zeros₇, issuanceRule, inputWitnessRule, inputRule, tokenRule, outputWitnessRule, outputRule, itemRule, nullIssuance, inputFault, recordItems, inputFaults, emptyInput, emptyOutput, held, tableFaults}
 use Rattle.layout.proofs.Number.{bytes-take, bytes-drop}
 use Rattle.layout.proofs.Reading.{by-cases}
 use Rattle.layout.proofs.Outpoint.{true-not-false}
@@ -51,7 +49,7 @@ not-true : (b : Bool) → not b ≡ true → b ≡ false
 not-true true e = absurd (true-not-false (sym e))
 not-true false e = refl
 
-or-split : (a b : Bool) → a ≡ false → (a || b) ≡ true → b ≡ true
+pub or-split : (a b : Bool) → a ≡ false → (a || b) ≡ true → b ≡ true
 or-split true b f e = absurd (true-not-false f)
 or-split false b f e = e
 
@@ -102,7 +100,7 @@ module _ (source : List ℕ) (bs : Bytes source) where
       rw e (both .0, part (at + 1) 32 (omega (arith, leb-true (at + 33) there (both .1)))))
 
   -- a commitment's width is 33
-  width-of : (p : ℕ) → commitmentPrefix p ≡ true → valueWidth p ≡ 33
+  pub width-of : (p : ℕ) → commitmentPrefix p ≡ true → valueWidth p ≡ 33
   width-of p e =
       by-cases (eqb p 0) (λ t. absurd (true-not-false (sym e ∙ ap commitmentPrefix (eqb-true p 0 t))))
       (λ t₀. by-cases (eqb p 1) (λ t. absurd (true-not-false (sym e ∙ ap commitmentPrefix (eqb-true p 1 t)))) (λ t. rw (t₀, t) refl))
@@ -150,7 +148,7 @@ module _ (source : List ℕ) (bs : Bytes source) where
       let d = and-true _ _ (c .0) in
       record { txid = d .0; flags = d .1; script = c .1; issuance = b .1; witness = a .1 }
 
-  issuance-allowed : (r : List ℕ) → Words r → issues r ≡ true → issuanceRule there r ≡ true → nullIssuance r ≡ false → IssuanceAllowed (issuanceOf source r)
+  pub issuance-allowed : (r : List ℕ) → Words r → issues r ≡ true → issuanceRule there r ≡ true → nullIssuance r ≡ false → IssuanceAllowed (issuanceOf source r)
   unfolding issuanceRule
   issuance-allowed r w i e n =
       let rule = subst (λ (b : Bool). cond b (lies there (r ! 6 + 64 + valueWidth (r ! 7)) (valueWidth (r ! 10)) && valueRule (r ! 7) (r ! 8) (r ! 9) && valueRule (r ! 10) (r ! 11) (r ! 12)) (zeros₇ r 6) ≡ true) i e in
@@ -208,7 +206,7 @@ module _ (source : List ℕ) (bs : Bytes source) where
       let f = and-true _ _ (d .0) in
       record { asset = f .0; value = f .1; commitment-lies = d .1; nonce = c .1; script = b .1; witness = a .1 }
 
-  commitment-above : (p : ℕ) → commitmentPrefix p ≡ true → leb p 1 ≡ false
+  pub commitment-above : (p : ℕ) → commitmentPrefix p ≡ true → leb p 1 ≡ false
   commitment-above p e =
       by-cases (leb p 1)
       (λ t. by-cases (eqb p 0) (λ q. absurd (true-not-false (sym e ∙ ap commitmentPrefix (eqb-true p 0 q)))) (λ q. let one : p ≡ 1 = omega (arith, leb-true p 1 t, eqb-false p 0 q) in absurd (true-not-false (sym e ∙ ap commitmentPrefix one))))

@@ -1,6 +1,7 @@
 -- A part of the layout and the contents that it codes, both ways at once, and the ways of putting parts together.
 --     forth   reading the bytes of good contents, and anything behind them, goes on behind them with the part's entries
 --     back    where a reading finishes, it began with the bytes of some good contents, and goes on behind them
+--     traced  reading the bytes of good contents does this in order, and goes on behind them
 use Prim.Native.Nat.{ℕ, zero, suc, _+_, _-_, _*_, _^_, _<_, _≤_}
 use mathlib.Core.Path.{_≡_, refl, sym, _∙_, ap, ap₂, subst}
 use mathlib.Core.Bool.{Bool, true, false, cond}
@@ -16,6 +17,7 @@ use Rattle.layout.specs.Layout.{Layout, number, opaque, enter, refuse, a
 use Rattle.layout.specs.Transaction.{Head, limit, within, furtherAt, numberAt, opaqueAt, each, alone}
 use Rattle.layout.specs.Contents.{Fixed, Every, flat, compactBytes, listBytes}
 use Rattle.layout.proofs.Number.{bytes-take, bytes-drop, value-bytes, bytes-value, length-bytes, bytes-bytes, value-small}
+use Rattle.layout.proofs.Trace.{Event, enters, entering, looked, passed, trace, met, fieldTrace, trace-there}
 use Rattle.layout.proofs.Reading.{by-cases, fieldRun, field-there, field-case, finished-not-more, refused-not-finished}
 
 pub bytes-behind : (xs ys : List ℕ) → Bytes (xs ++ ys) → Bytes ys
@@ -41,9 +43,10 @@ pub record Began {X S : Type 0} (Good : X → Type 0) (bytes : X → List ℕ) (
   pub ends : at + length (bytes held) ≤ limit
   pub goes : Finishes (k (out held) (at + length (bytes held))) rest a
 
-pub record Codes {X S : Type 0} (part : Part S) (Good : X → Type 0) (bytes : X → List ℕ) (log : ℕ → X → List Entry) (out : X → S) : Type 0 where
+pub record Codes {X S : Type 0} (part : Part S) (Good : X → Type 0) (bytes : X → List ℕ) (log : ℕ → X → List Entry) (events : ℕ → X → List Event) (out : X → S) : Type 0 where
   pub forth : (x : X) → Good x → (at : ℕ) (k : S → ℕ → Layout Head) (ys : List ℕ) → at + length (bytes x) ≤ limit → run (part at k) (bytes x ++ ys) ≡ after (length (bytes x)) (log at x) (run (k (out x) (at + length (bytes x))) ys)
   pub back : (at : ℕ) (k : S → ℕ → Layout Head) (xs : List ℕ) (a : Head) → Bytes xs → at ≤ limit → Finishes (part at k) xs a → Began Good bytes out at k xs a
+  pub traced : (x : X) → Good x → (at : ℕ) (k : S → ℕ → Layout Head) (ys : List ℕ) → at + length (bytes x) ≤ limit → trace (part at k) (bytes x ++ ys) ≡ events at x ++ trace (k (out x) (at + length (bytes x))) ys
 
 -- what was held, as other contents
 pub began-as : {X Y S : Type 0} {Good : X → Type 0} {bytes : X → List ℕ} {out : X → S} {Good′ : Y → Type 0} {bytes′ : Y → List ℕ} {out′ : Y → S} {at : ℕ} {k : S → ℕ → Layout Head} {xs : List ℕ} {a : Head} (u : Began Good bytes out at k xs a) (y : Y) → Good′ y → bytes′ y ≡ bytes (u .held) → out′ y ≡ out (u .held) → Began Good′ bytes′ out′ at k xs a
@@ -60,9 +63,9 @@ began-as {S = S} {out = out} {bytes′ = bytes′} {at = at} {k = k} {a = a} u y
 -- ---- putting parts together
 
 -- one part, and then another that may depend on it
-module _ {X Y S T : Type 0} {P : Part S} {GoodP : X → Type 0} {bytesP : X → List ℕ} {logP : ℕ → X → List Entry} {outP : X → S}
-    {Q : ℕ → S → Part T} {GoodQ : X → Y → Type 0} {bytesQ : X → Y → List ℕ} {logQ : ℕ → X → ℕ → Y → List Entry} {outQ : X → Y → T} where
-  pub then : Codes P GoodP bytesP logP outP → ((at : ℕ) (x : X) → GoodP x → Codes (Q at (outP x)) (GoodQ x) (bytesQ x) (logQ at x) (outQ x)) → Codes (λ at k. P at (λ s at′. Q at s at′ k)) (λ (z : X × Y). GoodP (z .0) × GoodQ (z .0) (z .1)) (λ z. bytesP (z .0) ++ bytesQ (z .0) (z .1)) (λ at z. logP at (z .0) ++ logQ at (z .0) (at + length (bytesP (z .0))) (z .1)) (λ z. outQ (z .0) (z .1))
+module _ {X Y S T : Type 0} {P : Part S} {GoodP : X → Type 0} {bytesP : X → List ℕ} {logP : ℕ → X → List Entry} {eventsP : ℕ → X → List Event} {outP : X → S}
+    {Q : ℕ → S → Part T} {GoodQ : X → Y → Type 0} {bytesQ : X → Y → List ℕ} {logQ : ℕ → X → ℕ → Y → List Entry} {eventsQ : ℕ → X → ℕ → Y → List Event} {outQ : X → Y → T} where
+  pub then : Codes P GoodP bytesP logP eventsP outP → ((at : ℕ) (x : X) → GoodP x → Codes (Q at (outP x)) (GoodQ x) (bytesQ x) (logQ at x) (eventsQ at x) (outQ x)) → Codes (λ at k. P at (λ s at′. Q at s at′ k)) (λ (z : X × Y). GoodP (z .0) × GoodQ (z .0) (z .1)) (λ z. bytesP (z .0) ++ bytesQ (z .0) (z .1)) (λ at z. logP at (z .0) ++ logQ at (z .0) (at + length (bytesP (z .0))) (z .1)) (λ at z. eventsP at (z .0) ++ eventsQ at (z .0) (at + length (bytesP (z .0))) (z .1)) (λ z. outQ (z .0) (z .1))
   then p q =
       record {
         forth = λ z g at k ys h.
@@ -94,12 +97,25 @@ module _ {X Y S T : Type 0} {P : Part S} {GoodP : X → Type 0} {bytesP : X → 
               ends = subst (λ (n : ℕ). n ≤ limit) e (v .ends);
               goes = subst (λ (n : ℕ). Finishes (k (outQ (u .held) (v .held)) n) (v .rest) a) e (v .goes);
             };
+        traced = λ z g at k ys h.
+            let x = z .0 in
+            let y = z .1 in
+            let b = bytesP x in
+            let c = bytesQ x y in
+            let both : length (b ++ c) ≡ length b + length c = length-append b c in
+            let k′ : S → ℕ → Layout Head = λ s at′. Q at s at′ k in
+            let e : at + length b + length c ≡ at + length (b ++ c) = omega arith in
+            ap (trace (P at k′)) (append-assoc b c ys)
+            ∙ p .traced x (g .0) at k′ (c ++ ys) (omega arith)
+            ∙ ap (λ (t : List Event). eventsP at x ++ t) (q at x (g .0) .traced y (g .1) (at + length b) k ys (omega arith))
+            ∙ sym (append-assoc (eventsP at x) (eventsQ at x (at + length b) y) (trace (k (outQ x y) (at + length b + length c)) ys))
+            ∙ ap (λ (n : ℕ). (eventsP at x ++ eventsQ at x (at + length b) y) ++ trace (k (outQ x y) n) ys) e;
       }
 
 -- a part whose entry follows it, and one whose result is tested
-module _ {X S : Type 0} {P : Part S} {Good : X → Type 0} {bytes : X → List ℕ} {log : ℕ → X → List Entry} {out : X → S} where
-  pub noting : (e : ℕ → S → Entry) → Codes P Good bytes log out → Codes (λ at k. P at (λ s at′. enter (e at s) (k s at′))) Good bytes (λ at x. log at x ++ (e at (out x) ∷ [])) out
-  unfolding run
+module _ {X S : Type 0} {P : Part S} {Good : X → Type 0} {bytes : X → List ℕ} {log : ℕ → X → List Entry} {events : ℕ → X → List Event} {out : X → S} where
+  pub noting : (e : ℕ → S → Entry) → Codes P Good bytes log events out → Codes (λ at k. P at (λ s at′. enter (e at s) (k s at′))) Good bytes (λ at x. log at x ++ (e at (out x) ∷ [])) (λ at x. entering (events at x) (e at (out x))) out
+  unfolding run trace
   noting e p =
       record {
         forth = λ x g at k ys h.
@@ -108,9 +124,11 @@ module _ {X S : Type 0} {P : Part S} {Good : X → Type 0} {bytes : X → List �
         back = λ at k xs a bs h f.
             let u = p .back at (λ s at′. enter (e at s) (k s at′)) xs a bs h f in
             record { held = u .held; rest = u .rest; good = u .good; same = u .same; ends = u .ends; goes = u .goes };
+        traced = λ x g at k ys h.
+            p .traced x g at (λ s at′. enter (e at s) (k s at′)) ys h ∙ sym (append-assoc (events at x) (enters (e at (out x)) ∷ []) (trace (k (out x) (at + length (bytes x))) ys));
       }
 
-  pub passing : (t : S → Bool) (n : ℕ) (place : ℕ → ℕ) → Codes P Good bytes log out → Codes (λ at k. P at (λ s at′. cond (t s) (k s at′) (refuse n (place at)))) (λ x. Good x × (t (out x) ≡ true)) bytes log out
+  pub passing : (t : S → Bool) (n : ℕ) (place : ℕ → ℕ) → Codes P Good bytes log events out → Codes (λ at k. P at (λ s at′. cond (t s) (k s at′) (refuse n (place at)))) (λ x. Good x × (t (out x) ≡ true)) bytes log events out
   unfolding run
   passing t n place p =
       record {
@@ -123,9 +141,12 @@ module _ {X S : Type 0} {P : Part S} {Good : X → Type 0} {bytes : X → List �
             by-cases (t (out (u .held)))
             (λ e. record { held = u .held; rest = u .rest; good = (u .good, e); same = u .same; ends = u .ends; goes = subst (λ (b : Bool). Finishes (cond b go (refuse n (place at))) (u .rest) a) e (u .goes) })
             (λ e. absurd (refused-not-finished (subst (λ (b : Bool). Finishes (cond b go (refuse n (place at))) (u .rest) a) e (u .goes))));
+        traced = λ x g at k ys h.
+            p .traced x (g .0) at (λ s at′. cond (t s) (k s at′) (refuse n (place at))) ys h
+            ∙ ap (λ (b : Bool). events at x ++ trace (cond b (k (out x) (at + length (bytes x))) (refuse n (place at))) ys) (g .1);
       }
 
-  pub failing : (t : S → Bool) (n place : ℕ) → Codes P Good bytes log out → Codes (λ at k. P at (λ s at′. cond (t s) (refuse n place) (k s at′))) (λ x. Good x × (t (out x) ≡ false)) bytes log out
+  pub failing : (t : S → Bool) (n place : ℕ) → Codes P Good bytes log events out → Codes (λ at k. P at (λ s at′. cond (t s) (refuse n place) (k s at′))) (λ x. Good x × (t (out x) ≡ false)) bytes log events out
   unfolding run
   failing t n place p =
       record {
@@ -138,20 +159,24 @@ module _ {X S : Type 0} {P : Part S} {Good : X → Type 0} {bytes : X → List �
             by-cases (t (out (u .held)))
             (λ e. absurd (refused-not-finished (subst (λ (b : Bool). Finishes (cond b (refuse n place) go) (u .rest) a) e (u .goes))))
             (λ e. record { held = u .held; rest = u .rest; good = (u .good, e); same = u .same; ends = u .ends; goes = subst (λ (b : Bool). Finishes (cond b (refuse n place) go) (u .rest) a) e (u .goes) });
+        traced = λ x g at k ys h.
+            p .traced x (g .0) at (λ s at′. cond (t s) (refuse n place) (k s at′)) ys h
+            ∙ ap (λ (b : Bool). events at x ++ trace (cond b (refuse n place) (k (out x) (at + length (bytes x)))) ys) (g .1);
       }
 
   -- the same part as a coding of other contents
-  module _ {Y : Type 0} {Good′ : Y → Type 0} {bytes′ : Y → List ℕ} {log′ : ℕ → Y → List Entry} {out′ : Y → S} where
+  module _ {Y : Type 0} {Good′ : Y → Type 0} {bytes′ : Y → List ℕ} {log′ : ℕ → Y → List Entry} {events′ : ℕ → Y → List Event} {out′ : Y → S} where
     pub seen-as :
         (to : Y → X)
         → ((y : Y) → Good′ y → length (bytes′ y) ≤ limit → Good (to y))
         → ((y : Y) → Good′ y → bytes′ y ≡ bytes (to y))
         → ((at : ℕ) (y : Y) → Good′ y → log′ at y ≡ log at (to y))
+        → ((at : ℕ) (y : Y) → Good′ y → events′ at y ≡ events at (to y))
         → ((y : Y) → Good′ y → out′ y ≡ out (to y))
         → ((x : X) → Good x → (y : Y) × Good′ y × (to y ≡ x))
-        → Codes P Good bytes log out
-        → Codes P Good′ bytes′ log′ out′
-    seen-as to goods spells enters hands finds p =
+        → Codes P Good bytes log events out
+        → Codes P Good′ bytes′ log′ events′ out′
+    seen-as to goods spells logs tells hands finds p =
         record {
           forth = λ y g at k ys h.
               let e = spells y g in
@@ -159,44 +184,53 @@ module _ {X S : Type 0} {P : Part S} {Good : X → Type 0} {bytes : X → List �
               ap (λ (l : List ℕ). run (P at k) (l ++ ys)) e
               ∙ p .forth x (goods y g (omega arith)) at k ys (subst (λ (l : List ℕ). at + length l ≤ limit) e h)
               ∙ ap (λ (l : List ℕ). after (length l) (log at x) (run (k (out x) (at + length l)) ys)) (sym e)
-              ∙ ap₂ (λ (es : List Entry) (s : S). after (length (bytes′ y)) es (run (k s (at + length (bytes′ y))) ys)) (sym (enters at y g)) (sym (hands y g));
+              ∙ ap₂ (λ (es : List Entry) (s : S). after (length (bytes′ y)) es (run (k s (at + length (bytes′ y))) ys)) (sym (logs at y g)) (sym (hands y g));
           back = λ at k xs a bs h f.
               let u = p .back at k xs a bs h f in
               let v = finds (u .held) (u .good) in
               began-as u (v .0) (v .1) (spells (v .0) (v .1) ∙ ap bytes (v .2)) (hands (v .0) (v .1) ∙ ap out (v .2));
+          traced = λ y g at k ys h.
+              let e = spells y g in
+              let x = to y in
+              ap (λ (l : List ℕ). trace (P at k) (l ++ ys)) e
+              ∙ p .traced x (goods y g (omega arith)) at k ys (subst (λ (l : List ℕ). at + length l ≤ limit) e h)
+              ∙ ap (λ (l : List ℕ). events at x ++ trace (k (out x) (at + length l)) ys) (sym e)
+              ∙ ap₂ (λ (es : List Event) (s : S). es ++ trace (k s (at + length (bytes′ y))) ys) (sym (tells at y g)) (sym (hands y g));
         }
 
 -- a part's result as another
-pub handing : {X S T : Type 0} {P : Part S} {Good : X → Type 0} {bytes : X → List ℕ} {log : ℕ → X → List Entry} {out : X → S} (f : S → T) → Codes P Good bytes log out → Codes (λ at (k : T → ℕ → Layout Head). P at (λ s. k (f s))) Good bytes log (λ x. f (out x))
+pub handing : {X S T : Type 0} {P : Part S} {Good : X → Type 0} {bytes : X → List ℕ} {log : ℕ → X → List Entry} {events : ℕ → X → List Event} {out : X → S} (f : S → T) → Codes P Good bytes log events out → Codes (λ at (k : T → ℕ → Layout Head). P at (λ s. k (f s))) Good bytes log events (λ x. f (out x))
 handing f p =
     record {
       forth = λ x g at k ys h. p .forth x g at (λ s. k (f s)) ys h;
       back = λ at k xs a bs h e.
           let u = p .back at (λ s. k (f s)) xs a bs h e in
           record { held = u .held; rest = u .rest; good = u .good; same = u .same; ends = u .ends; goes = u .goes };
+      traced = λ x g at k ys h. p .traced x g at (λ s. k (f s)) ys h;
     }
 
 -- the branch that a test takes
-module _ {X S : Type 0} {Good : X → Type 0} {bytes : X → List ℕ} {log : ℕ → X → List Entry} {out : X → S} (t : Bool) (P Q : Part S) where
-  pub if-true : t ≡ true → Codes P Good bytes log out → Codes (λ at k. cond t (P at k) (Q at k)) Good bytes log out
-  if-true e p = subst (λ (b : Bool). Codes (λ at k. cond b (P at k) (Q at k)) Good bytes log out) (sym e) p
+module _ {X S : Type 0} {Good : X → Type 0} {bytes : X → List ℕ} {log : ℕ → X → List Entry} {events : ℕ → X → List Event} {out : X → S} (t : Bool) (P Q : Part S) where
+  pub if-true : t ≡ true → Codes P Good bytes log events out → Codes (λ at k. cond t (P at k) (Q at k)) Good bytes log events out
+  if-true e p = subst (λ (b : Bool). Codes (λ at k. cond b (P at k) (Q at k)) Good bytes log events out) (sym e) p
 
-  pub if-false : t ≡ false → Codes Q Good bytes log out → Codes (λ at k. cond t (P at k) (Q at k)) Good bytes log out
-  if-false e q = subst (λ (b : Bool). Codes (λ at k. cond b (P at k) (Q at k)) Good bytes log out) (sym e) q
+  pub if-false : t ≡ false → Codes Q Good bytes log events out → Codes (λ at k. cond t (P at k) (Q at k)) Good bytes log events out
+  if-false e q = subst (λ (b : Bool). Codes (λ at k. cond b (P at k) (Q at k)) Good bytes log events out) (sym e) q
 
 -- no bytes
-pub empty-codes : {S : Type 0} (s : S) → Codes (λ at k. k s at) (λ (x : Unit {0}). Unit {0}) (λ x. []) (λ at x. []) (λ x. s)
+pub empty-codes : {S : Type 0} (s : S) → Codes (λ at k. k s at) (λ (x : Unit {0}). Unit {0}) (λ x. []) (λ at x. []) (λ at x. []) (λ x. s)
 empty-codes s =
     record {
       forth = λ x g at k ys h.
           ap (λ (n : ℕ). run (k s n) ys) (sym (add-zero at)) ∙ (let r = run (k s (at + 0)) ys in ap (λ (n : ℕ). reading (r .answer) n (r .log)) (sym (zero-add (r .taken))));
       back = λ at k xs a bs h f. record { held = tt; rest = xs; good = tt; same = refl; ends = omega arith; goes = subst (λ (n : ℕ). Finishes (k s n) xs a) (sym (add-zero at)) f };
+      traced = λ x g at k ys h. ap (λ (n : ℕ). trace (k s n) ys) (sym (add-zero at));
     }
 
 -- no contents at all
-pub refuse-codes : {X S : Type 0} {Good : X → Type 0} {bytes : X → List ℕ} {log : ℕ → X → List Entry} {out : X → S} (n place : ℕ) → ((x : X) → Good x → ⊥) → Codes (λ at k. refuse n place) Good bytes log out
+pub refuse-codes : {X S : Type 0} {Good : X → Type 0} {bytes : X → List ℕ} {log : ℕ → X → List Entry} {events : ℕ → X → List Event} {out : X → S} (n place : ℕ) → ((x : X) → Good x → ⊥) → Codes (λ at k. refuse n place) Good bytes log events out
 unfolding run
-refuse-codes n place never = record { forth = λ x g. absurd (never x g); back = λ at k xs a bs h f. absurd (refused-not-finished f) }
+refuse-codes n place never = record { forth = λ x g. absurd (never x g); back = λ at k xs a bs h f. absurd (refused-not-finished f); traced = λ x g. absurd (never x g) }
 
 -- ---- so many of one kind; each hands on what later ones need of it
 
@@ -213,31 +247,53 @@ module _ {X S : Type 0} (part : ℕ → S → Part S) (Good : S → X → Type 0
   nextEach s [] = s
   nextEach s (x ∷ xs) = nextEach (next s x) xs
 
+module _ {X S : Type 0} (bytes : X → List ℕ) (events : ℕ → S → ℕ → X → List Event) (next : S → X → S) where
+  abbrev pub eventsEach : ℕ → S → ℕ → List X → List Event
+  eventsEach i s at [] = []
+  eventsEach i s at (x ∷ xs) = events i s at x ++ eventsEach (suc i) (next s x) (at + length (bytes x)) xs
+
+module _ {X S : Type 0} (part : ℕ → S → Part S) (Good : S → X → Type 0) (bytes : X → List ℕ) (log : ℕ → S → ℕ → X → List Entry) (events : ℕ → S → ℕ → X → List Event) (next : S → X → S) where
+  abbrev Goods : S → List X → Type 0
+  Goods = GoodEach part Good bytes log next
+
+  abbrev logs : ℕ → S → ℕ → List X → List Entry
+  logs = logEach part Good bytes log next
+
+  abbrev tells : ℕ → S → ℕ → List X → List Event
+  tells = eventsEach bytes events next
+
+  abbrev nexts : S → List X → S
+  nexts = nextEach part Good bytes log next
+
   abbrev Eaches : ℕ → ℕ → S → Type 0
-  Eaches n i s = Codes (λ at k. each part n i s at k) (λ xs. (length xs ≡ n) × GoodEach s xs) (flat bytes) (logEach i s) (nextEach s)
+  Eaches n i s = Codes (λ at k. each part n i s at k) (λ xs. (length xs ≡ n) × Goods s xs) (flat bytes) (logs i s) (tells i s) (nexts s)
 
   no-each : (i : ℕ) (s : S) → Eaches 0 i s
   unfolding each flat
-  no-each i s = seen-as {Y = List X} (λ xs. tt) (λ xs g h. tt) none-bytes none-log none-next (λ x g. ([], (refl, tt), refl)) (empty-codes s)
+  no-each i s = seen-as {Y = List X} (λ xs. tt) (λ xs g h. tt) none-bytes none-log none-events none-next (λ x g. ([], (refl, tt), refl)) (empty-codes s)
     where
-      none-bytes : (xs : List X) → (length xs ≡ 0) × GoodEach s xs → flat bytes xs ≡ []
+      none-bytes : (xs : List X) → (length xs ≡ 0) × Goods s xs → flat bytes xs ≡ []
       none-bytes [] g = refl
       none-bytes (x ∷ xs) g = absurd (omega (arith, g .0))
 
-      none-log : (at : ℕ) (xs : List X) → (length xs ≡ 0) × GoodEach s xs → logEach i s at xs ≡ []
+      none-log : (at : ℕ) (xs : List X) → (length xs ≡ 0) × Goods s xs → logs i s at xs ≡ []
       none-log at [] g = refl
       none-log at (x ∷ xs) g = absurd (omega (arith, g .0))
 
-      none-next : (xs : List X) → (length xs ≡ 0) × GoodEach s xs → nextEach s xs ≡ s
+      none-events : (at : ℕ) (xs : List X) → (length xs ≡ 0) × Goods s xs → tells i s at xs ≡ []
+      none-events at [] g = refl
+      none-events at (x ∷ xs) g = absurd (omega (arith, g .0))
+
+      none-next : (xs : List X) → (length xs ≡ 0) × Goods s xs → nexts s xs ≡ s
       none-next [] g = refl
       none-next (x ∷ xs) g = absurd (omega (arith, g .0))
 
   -- one, and then n more
-  ahead : (n i : ℕ) (s : S) → Codes (part i s) (Good s) bytes (log i s) (next s) → ((x : X) → Eaches n (suc i) (next s x)) → Codes (λ at k. each part (suc n) i s at k) (λ (z : X × List X). Good s (z .0) × ((length (z .1) ≡ n) × GoodEach (next s (z .0)) (z .1))) (λ z. bytes (z .0) ++ flat bytes (z .1)) (λ at z. log i s at (z .0) ++ logEach (suc i) (next s (z .0)) (at + length (bytes (z .0))) (z .1)) (λ z. nextEach (next s (z .0)) (z .1))
+  ahead : (n i : ℕ) (s : S) → Codes (part i s) (Good s) bytes (log i s) (events i s) (next s) → ((x : X) → Eaches n (suc i) (next s x)) → Codes (λ at k. each part (suc n) i s at k) (λ (z : X × List X). Good s (z .0) × ((length (z .1) ≡ n) × Goods (next s (z .0)) (z .1))) (λ z. bytes (z .0) ++ flat bytes (z .1)) (λ at z. log i s at (z .0) ++ logs (suc i) (next s (z .0)) (at + length (bytes (z .0))) (z .1)) (λ at z. events i s at (z .0) ++ tells (suc i) (next s (z .0)) (at + length (bytes (z .0))) (z .1)) (λ z. nexts (next s (z .0)) (z .1))
   unfolding each
   ahead n i s p q = then {Q = λ at s′ at′ k. each part n (suc i) s′ at′ k} p (λ at x g. q x)
 
-  one-more : (n i : ℕ) (s : S) → Codes (part i s) (Good s) bytes (log i s) (next s) → ((x : X) → Eaches n (suc i) (next s x)) → Eaches (suc n) i s
+  one-more : (n i : ℕ) (s : S) → Codes (part i s) (Good s) bytes (log i s) (events i s) (next s) → ((x : X) → Eaches n (suc i) (next s x)) → Eaches (suc n) i s
   unfolding flat
   one-more n i s p q =
       record {
@@ -245,13 +301,18 @@ module _ {X S : Type 0} (part : ℕ → S → Part S) (Good : S → X → Type 0
         back = λ at k xs a bs h f.
             let u = ahead n i s p q .back at k xs a bs h f in
             record { held = u .held .0 ∷ u .held .1; rest = u .rest; good = (ap suc (u .good .1 .0), (u .good .0, u .good .1 .1)); same = u .same; ends = u .ends; goes = u .goes };
+        traced = traced-one;
       }
     where
-      forth-one : (xs : List X) → (length xs ≡ suc n) × GoodEach s xs → (at : ℕ) (k : S → ℕ → Layout Head) (ys : List ℕ) → at + length (flat bytes xs) ≤ limit → run (each part (suc n) i s at k) (flat bytes xs ++ ys) ≡ after (length (flat bytes xs)) (logEach i s at xs) (run (k (nextEach s xs) (at + length (flat bytes xs))) ys)
+      traced-one : (xs : List X) → (length xs ≡ suc n) × Goods s xs → (at : ℕ) (k : S → ℕ → Layout Head) (ys : List ℕ) → at + length (flat bytes xs) ≤ limit → trace (each part (suc n) i s at k) (flat bytes xs ++ ys) ≡ tells i s at xs ++ trace (k (nexts s xs) (at + length (flat bytes xs))) ys
+      traced-one [] g = absurd (omega (arith, g .0))
+      traced-one (x ∷ xs) g = ahead n i s p q .traced (x, xs) (g .1 .0, (omega (arith, g .0), g .1 .1))
+
+      forth-one : (xs : List X) → (length xs ≡ suc n) × Goods s xs → (at : ℕ) (k : S → ℕ → Layout Head) (ys : List ℕ) → at + length (flat bytes xs) ≤ limit → run (each part (suc n) i s at k) (flat bytes xs ++ ys) ≡ after (length (flat bytes xs)) (logs i s at xs) (run (k (nexts s xs) (at + length (flat bytes xs))) ys)
       forth-one [] g = absurd (omega (arith, g .0))
       forth-one (x ∷ xs) g = ahead n i s p q .forth (x, xs) (g .1 .0, (omega (arith, g .0), g .1 .1))
 
-  pub each-codes : ((i : ℕ) (s : S) → Codes (part i s) (Good s) bytes (log i s) (next s)) → (n i : ℕ) (s : S) → Codes (λ at k. each part n i s at k) (λ xs. (length xs ≡ n) × GoodEach s xs) (flat bytes) (logEach i s) (nextEach s)
+  pub each-codes : ((i : ℕ) (s : S) → Codes (part i s) (Good s) bytes (log i s) (events i s) (next s)) → (n i : ℕ) (s : S) → Codes (λ at k. each part n i s at k) (λ xs. (length xs ≡ n) × GoodEach part Good bytes log next s xs) (flat bytes) (logEach part Good bytes log next i s) (eventsEach bytes events next i s) (nextEach part Good bytes log next s)
   each-codes p zero i s = no-each i s
   each-codes p (suc n) i s = one-more n i s (p i s) (λ x. each-codes p n (suc i) (next s x))
 
@@ -261,6 +322,12 @@ module _ {X : Type 0} (part : ℕ → ℕ → (ℕ → Layout Head) → Layout H
   logAll i at [] = []
   logAll i at (x ∷ xs) = log i at x ++ logAll (suc i) (at + length (bytes x)) xs
 
+module _ {X : Type 0} (bytes : X → List ℕ) (events : ℕ → ℕ → X → List Event) where
+  abbrev pub eventsAll : ℕ → ℕ → List X → List Event
+  eventsAll i at [] = []
+  eventsAll i at (x ∷ xs) = events i at x ++ eventsAll (suc i) (at + length (bytes x)) xs
+
+module _ {X : Type 0} (part : ℕ → ℕ → (ℕ → Layout Head) → Layout Head) (Good : X → Type 0) (bytes : X → List ℕ) (log : ℕ → ℕ → X → List Entry) (events : ℕ → ℕ → X → List Event) where
   abbrev GoodOnes : List X → Type 0
   GoodOnes xs = GoodEach {S = Unit {0}} (λ i s at k. part i at (k s)) (λ s. Good) bytes (λ i s. log i) (λ s x. s) tt xs
 
@@ -272,31 +339,37 @@ module _ {X : Type 0} (part : ℕ → ℕ → (ℕ → Layout Head) → Layout H
   one-every [] g = tt
   one-every (x ∷ xs) g = (g .0, one-every xs (g .1))
 
-  log-all : (i at : ℕ) (xs : List X) → logAll i at xs ≡ logEach {S = Unit {0}} (λ i s at k. part i at (k s)) (λ s. Good) bytes (λ i s. log i) (λ s x. s) i tt at xs
+  log-all : (i at : ℕ) (xs : List X) → logAll part Good bytes log i at xs ≡ logEach {S = Unit {0}} (λ i s at k. part i at (k s)) (λ s. Good) bytes (λ i s. log i) (λ s x. s) i tt at xs
   log-all i at [] = refl
   log-all i at (x ∷ xs) = ap (λ (es : List Entry). log i at x ++ es) (log-all (suc i) (at + length (bytes x)) xs)
 
-  pub all-codes : ((i : ℕ) → Codes (λ at (k : Unit {0} → ℕ → Layout Head). part i at (k tt)) Good bytes (log i) (λ x. tt)) → (n i : ℕ) → Codes (λ at (k : Unit {0} → ℕ → Layout Head). each (alone part) n i tt at k) (λ xs. (length xs ≡ n) × Every Good xs) (flat bytes) (logAll i) (λ xs. tt)
+  events-all : (i at : ℕ) (xs : List X) → eventsAll bytes events i at xs ≡ eventsEach {S = Unit {0}} bytes (λ i s. events i) (λ s x. s) i tt at xs
+  events-all i at [] = refl
+  events-all i at (x ∷ xs) = ap (λ (es : List Event). events i at x ++ es) (events-all (suc i) (at + length (bytes x)) xs)
+
+  pub all-codes : ((i : ℕ) → Codes (λ at (k : Unit {0} → ℕ → Layout Head). part i at (k tt)) Good bytes (log i) (events i) (λ x. tt)) → (n i : ℕ) → Codes (λ at (k : Unit {0} → ℕ → Layout Head). each (alone part) n i tt at k) (λ xs. (length xs ≡ n) × Every Good xs) (flat bytes) (logAll part Good bytes log i) (eventsAll bytes events i) (λ xs. tt)
   all-codes p n i =
       seen-as (λ xs. xs)
       (λ xs g h. (g .0, every-one xs (g .1)))
       (λ xs g. refl)
       (λ at xs g. log-all i at xs)
+      (λ at xs g. events-all i at xs)
       (λ xs g. refl)
       (λ xs g. (xs, (g .0, one-every xs (g .1)), refl))
-      (each-codes {S = Unit {0}} (λ i s at k. part i at (k s)) (λ s. Good) bytes (λ i s. log i) (λ s x. s) (λ i s. p i) n i tt)
+      (each-codes {S = Unit {0}} (λ i s at k. part i at (k s)) (λ s. Good) bytes (λ i s. log i) (λ i s. events i) (λ s x. s) (λ i s. p i) n i tt)
 
 -- A count, then so many.
-pub list-codes : {X : Type 0} {P : Part ℕ} {GoodCount : ℕ → Type 0} {logCount : ℕ → ℕ → List Entry} (part : ℕ → ℕ → (ℕ → Layout Head) → Layout Head) (Good : X → Type 0) (bytes : X → List ℕ) (log : ℕ → ℕ → X → List Entry) (first : ℕ) → Codes P GoodCount compactBytes logCount (λ n. n) → ((i : ℕ) → Codes (λ at (k : Unit {0} → ℕ → Layout Head). part i at (k tt)) Good bytes (log i) (λ x. tt)) → Codes (λ at (k : ℕ → ℕ → Layout Head). P at (λ n at′. each (alone part) n first tt at′ (λ s. k n))) (λ xs. GoodCount (length xs) × Every Good xs) (listBytes bytes) (λ at xs. logCount at (length xs) ++ logAll part Good bytes log first (at + length (compactBytes (length xs))) xs) (λ xs. length xs)
+pub list-codes : {X : Type 0} {P : Part ℕ} {GoodCount : ℕ → Type 0} {logCount : ℕ → ℕ → List Entry} {eventsCount : ℕ → ℕ → List Event} (part : ℕ → ℕ → (ℕ → Layout Head) → Layout Head) (Good : X → Type 0) (bytes : X → List ℕ) (log : ℕ → ℕ → X → List Entry) (events : ℕ → ℕ → X → List Event) (first : ℕ) → Codes P GoodCount compactBytes logCount eventsCount (λ n. n) → ((i : ℕ) → Codes (λ at (k : Unit {0} → ℕ → Layout Head). part i at (k tt)) Good bytes (log i) (events i) (λ x. tt)) → Codes (λ at (k : ℕ → ℕ → Layout Head). P at (λ n at′. each (alone part) n first tt at′ (λ s. k n))) (λ xs. GoodCount (length xs) × Every Good xs) (listBytes bytes) (λ at xs. logCount at (length xs) ++ logAll part Good bytes log first (at + length (compactBytes (length xs))) xs) (λ at xs. eventsCount at (length xs) ++ eventsAll bytes events first (at + length (compactBytes (length xs))) xs) (λ xs. length xs)
 unfolding listBytes
-list-codes {GoodCount = GoodCount} part Good bytes log first c p =
+list-codes {GoodCount = GoodCount} part Good bytes log events first c p =
     seen-as (λ xs. (length xs, xs))
     (λ xs g h. (g .0, (refl, g .1)))
     (λ xs g. refl)
     (λ at xs g. refl)
+    (λ at xs g. refl)
     (λ xs g. refl)
     (λ x g. (x .1, (subst GoodCount (sym (g .1 .0)) (g .0), g .1 .1), ap (λ (n : ℕ). (n, x .1)) (g .1 .0)))
-    (then {Q = λ at n at′ k. each (alone part) n first tt at′ (λ s. k n)} c (λ at n g. handing (λ s. n) (all-codes part Good bytes log p n first)))
+    (then {Q = λ at n at′ k. each (alone part) n first tt at′ (λ s. k n)} c (λ at n g. handing (λ s. n) (all-codes part Good bytes log events p n first)))
 
 -- ---- fields
 
@@ -320,8 +393,13 @@ field-run w f bs ys e =
 pub field-back : (w : ℕ) (xs : List ℕ) (r : Reading Head) (a : Head) → fieldRun w xs r .answer ≡ finished a → (w ≤ length xs) × (r .answer ≡ finished a)
 field-back w xs r a = field-case (λ (s : Reading Head). s .answer ≡ finished a → (w ≤ length xs) × (r .answer ≡ finished a)) w xs r (λ h e. (h, e)) (λ h e. absurd (finished-not-more (sym e)))
 
-pub number-codes : (start : ℕ → ℕ) (o : Order) (w : ℕ) → Codes (λ at k. furtherAt (start at) at o w k) (λ v. v < 256 ^ w) (bytesOf o w) (λ at v. []) (λ v. v)
-unfolding furtherAt run
+pub field-traced : (hid : Bool) (w : ℕ) (f : List ℕ → Layout Head) (bs ys : List ℕ) → length bs ≡ w → fieldTrace hid w (bs ++ ys) (trace (f (take w (bs ++ ys))) (drop w (bs ++ ys))) ≡ met hid bs ++ trace (f bs) ys
+field-traced hid w f bs ys e =
+    trace-there hid w (bs ++ ys) _ (omega (arith, length-append bs ys))
+    ∙ ap₂ (λ (b c : List ℕ). met hid b ++ trace (f b) c) (take-at bs ys w e) (drop-at bs ys w e)
+
+pub number-codes : (start : ℕ → ℕ) (o : Order) (w : ℕ) → Codes (λ at k. furtherAt (start at) at o w k) (λ v. v < 256 ^ w) (bytesOf o w) (λ at v. []) (λ at v. looked (bytesOf o w v)) (λ v. v)
+unfolding furtherAt run trace
 number-codes start o w =
     record {
       forth = λ v g at k ys h.
@@ -343,10 +421,15 @@ number-codes start o w =
             ends = omega (arith, length-bytes o w v);
             goes = subst (λ (n : ℕ). Finishes (k v (at + n)) (drop w xs) a) (sym (length-bytes o w v)) (there .1);
           };
+      traced = λ v g at k ys h.
+          let long = length-bytes o w v in
+          ap (λ (l : Layout Head). trace l (bytesOf o w v ++ ys)) (within-run (start at) (at + w) (number o w (λ v. k v (at + w))) (omega arith))
+          ∙ field-traced false w (λ bs. k (value o bs) (at + w)) (bytesOf o w v) ys long
+          ∙ ap₂ (λ (u n : ℕ). looked (bytesOf o w v) ++ trace (k u (at + n)) ys) (value-bytes o w v g) (sym long);
     }
 
-pub opaque-codes : (h : Hidden) (w : ℕ) → Codes (λ at (k : Unit {0} → ℕ → Layout Head). opaqueAt at h w (k tt)) (Fixed w) (λ bs. bs) (λ at bs. []) (λ bs. tt)
-unfolding opaqueAt run
+pub opaque-codes : (h : Hidden) (w : ℕ) → Codes (λ at (k : Unit {0} → ℕ → Layout Head). opaqueAt at h w (k tt)) (Fixed w) (λ bs. bs) (λ at bs. []) (λ at bs. passed bs) (λ bs. tt)
+unfolding opaqueAt run trace
 opaque-codes hid w =
     record {
       forth = λ bs g at k ys h.
@@ -365,4 +448,8 @@ opaque-codes hid w =
             ends = omega (arith, in-limit .0);
             goes = subst (λ (n : ℕ). Finishes (k tt (at + n)) (drop w xs) a) (sym long) (there .1);
           };
+      traced = λ bs g at k ys h.
+          ap (λ (l : Layout Head). trace l (bs ++ ys)) (within-run at (at + w) (opaque hid w (k tt (at + w))) (omega (arith, g .long)))
+          ∙ field-traced true w (λ _. k tt (at + w)) bs ys (g .long)
+          ∙ ap (λ (n : ℕ). passed bs ++ trace (k tt (at + n)) ys) (sym (g .long));
     }

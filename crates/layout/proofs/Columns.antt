@@ -1,27 +1,25 @@
--- Written and read back, the records agree in all but positions: column by column.
-use Prim.Native.Nat.{ℕ, zero, suc, _+_, _-_, _*_, _/_, _%_, _^_, _<_, _≤_}
-use mathlib.Core.Path.{_≡_, refl, sym, _∙_, ap, ap₂, subst}
-use mathlib.Core.Bool.{Bool, true, false, cond, not, _&&_, _||_}
-use mathlib.Core.List.{List, [], _∷_, _++_, append-assoc, append-nil, map, map-append}
+-- Two tables that show one transaction, each over its own source: record for record, the numbers agree in all but positions, and each body
+-- shows equal bytes.
+use Prim.Native.Nat.{ℕ, zero, suc, _+_, _*_, _<_, _≤_}
+use mathlib.Core.Path.{_≡_, refl, sym, _∙_, ap, subst}
+use mathlib.Core.Bool.{Bool, true}
+use mathlib.Core.List.{List, [], _∷_}
 use mathlib.Core.Option.{Option, none, some}
-use native.Mathlib.Nat.{add-assoc, add-zero, zero-add}
+use native.Mathlib.Nat.{add-comm, mul-zero, mul-suc}
 use native.Mathlib.Omega.{arith}
-use lib.Dec.{leb, eqb}
-use lib.ListN.{length, take, drop, getD, replicate, length-append, length-map, length-drop}
+use lib.ListN.{length, take, drop}
 use lib.Seq.{drop-drop}
-use lib.ListN.{take-append-drop, drop-of-length-le}
-use borrow.Author.Tests.{leb-true, leb-false, eqb-true, eqb-false}
-use Rattle.layout.specs.Number.{Bytes}
 use Rattle.layout.specs.Transaction.{Head, assetPrefix, noncePrefix}
-use Rattle.layout.specs.Outcome.{Tables, Sizes, Outcome, partial}
-use Rattle.layout.specs.Contents.{Value, null, explicit, commitment, Token, absent, present, Issuance, Input, Output, InputWitness, OutputWitness, Witnesses, Contents, flat, bodyBytes, listBytes, inputBytes, outputBytes, inputWitnessBytes, outputWitnessBytes, flagOf, Every}
-use Rattle.layout.specs.Records.{itemsOf, sum, itemCount, bodyColumns, valuePrefix, high, low, tokenPrefix, issuanceColumns, inputColumns, inputWitnessColumns, outputColumns, outputWitnessColumns, placed, placedWitnesses, stackRecords, witnessItems, witnessesItems, beside, inputsAt, outputsAt, witnessesAt, inputWitnessRecords, outputWitnessRecords, allItems, tablesOf}
-use Rattle.layout.specs.Writing.{records, body, valueOf, tokenOf, valueWidth, issuanceOf, issues, inputOf, outputOf, itemOf, inputWitnessOf, outputWitnessOf, inputRecords, outputRecords, itemRecords, witnessesOf, contentsOf, passes, _!_, lies, valueRule, zeros₄, zeros₇, issuanceRule, inputWitnessRule, inputRule, tokenRule, outputWitnessRule, outputRule, itemRule, recordItems, faults, writtenBytes}
-use Rattle.layout.proofs.Reading.{by-cases}
-use Rattle.layout.proofs.Laying.{blanks, Wide, inputRows, outputRows, itemRows, input-long}
-use Rattle.layout.proofs.Showing.{column, bodies, Parts, Standing, input-records, output-records, item-records}
-use Rattle.layout.proofs.Judging.{and-true}
-use Rattle.layout.proofs.Accepted.{body-long, InputPasses, InputsPass, InputParts, input-parts, OutputParts, output-parts, WitnessParts, witness-parts, Counted, all-counted, output-witness-parts, Passed, passed, Words, records-words, records-length, no-items}
+use Rattle.layout.specs.Outcome.{Tables}
+use Rattle.layout.specs.Contents.{Value, null, explicit, commitment, Token, absent, present, Issuance, Input, Output, InputWitness, OutputWitness, Witnesses, Contents, valueBytes, Every, ValueAllowed, TokenAllowed, Flagged, InputAllowed, OutputAllowed}
+use Rattle.layout.specs.Records.{itemsOf, itemCount, valuePrefix, tokenPrefix}
+use Rattle.layout.specs.Writing.{_!_, inputRecords, outputRecords, itemRecords, records}
+use Rattle.layout.specs.Shows.{From, ValueFrom, TokenFrom, Zeros, MaybeIssuance, InputShown, OutputShown, InputWitnessShown, OutputWitnessShown, ItemShown, wireItems, Each, EachWitness, MaybeWitnesses, Shows}
+use Rattle.layout.proofs.Outpoint.{true-not-false}
+use Rattle.layout.proofs.Number.{length-bytes}
+use Rattle.layout.proofs.Parts.{commitmentPrefix}
+use Rattle.layout.proofs.Showing.{Parts}
+use Rattle.layout.proofs.Accepted.{records-length}
 
 -- The numbers of an input record that are no positions.
 pub record InputAgrees (r s : List ℕ) : Type 0 where
@@ -58,312 +56,345 @@ Each₂ P [] (s ∷ ss) = ⊥
 Each₂ P (r ∷ rs) [] = ⊥
 Each₂ P (r ∷ rs) (s ∷ ss) = P r s × Each₂ P rs ss
 
--- ---- values, assets and nonces
-
-module _ (source : List ℕ) where
-  value-prefix : (at p h l : ℕ) → valuePrefix (valueOf source at p h l) ≡ p
-  unfolding valueOf
-  value-prefix at p h l =
-      by-cases (eqb p 0) (λ e. rw e (sym (eqb-true p 0 e)))
-      (λ e₀. by-cases (eqb p 1) (λ e. rw (e₀, e) (sym (eqb-true p 1 e))) (λ e. rw (e₀, e) refl))
-
-  -- not 1: high and low are 0
-  halves-zero : (p h l : ℕ) → eqb p 1 ≡ false → valueRule p h l ≡ true → (h ≡ 0) × (l ≡ 0)
-  unfolding valueRule
-  halves-zero p h l e r =
-      let rest : ((eqb p 0 || eqb p 8 || eqb p 9) && eqb h 0 && eqb l 0) ≡ true = subst (λ (b : Bool). (b || (eqb p 0 || eqb p 8 || eqb p 9) && eqb h 0 && eqb l 0) ≡ true) e r in
-      let a = and-true ((eqb p 0 || eqb p 8 || eqb p 9) && eqb h 0) (eqb l 0) rest in
-      (eqb-true h 0 (and-true (eqb p 0 || eqb p 8 || eqb p 9) (eqb h 0) (a .0) .1), eqb-true l 0 (a .1))
-
-  not-both : (p : ℕ) → eqb p 0 ≡ true → eqb p 1 ≡ false
-  not-both p e = ap (λ (n : ℕ). eqb n 1) (eqb-true p 0 e)
-
-  value-high : (at p h l : ℕ) → l < 2 ^ 32 → valueRule p h l ≡ true → high (valueOf source at p h l) ≡ h
-  unfolding valueOf
-  value-high at p h l hl r =
-      by-cases (eqb p 0) (λ e. rw e (sym (halves-zero p h l (not-both p e) r .0)))
-      (λ e₀. by-cases (eqb p 1) (λ e. rw (e₀, e) (omega arith)) (λ e. rw (e₀, e) (sym (halves-zero p h l e r .0))))
-
-  value-low : (at p h l : ℕ) → l < 2 ^ 32 → valueRule p h l ≡ true → low (valueOf source at p h l) ≡ l
-  unfolding valueOf
-  value-low at p h l hl r =
-      by-cases (eqb p 0) (λ e. rw e (sym (halves-zero p h l (not-both p e) r .1)))
-      (λ e₀. by-cases (eqb p 1) (λ e. rw (e₀, e) (omega arith)) (λ e. rw (e₀, e) (sym (halves-zero p h l e r .1))))
-
-  token-prefix : (at p : ℕ) → tokenPrefix (tokenOf source at p) ≡ p
-  unfolding tokenOf
-  token-prefix at p = by-cases (eqb p 0) (λ e. rw e (sym (eqb-true p 0 e))) (λ e. rw e refl)
-
-zero-of : (r : List ℕ) (c : ℕ) → eqb (r ! c) 0 ≡ true → r ! c ≡ 0
-zero-of r c e = eqb-true (r ! c) 0 e
-
--- four and seven numbers that are 0
-pub record Zeros₄ (r : List ℕ) (c : ℕ) : Type 0 where
-  pub a : r ! c ≡ 0
-  pub b : r ! (c + 1) ≡ 0
-  pub d : r ! (c + 2) ≡ 0
-  pub e : r ! (c + 3) ≡ 0
-
-zeros-four : (r : List ℕ) (c : ℕ) → zeros₄ r c ≡ true → Zeros₄ r c
-zeros-four r c t =
-    let p = and-true (eqb (r ! c) 0 && eqb (r ! (c + 1)) 0 && eqb (r ! (c + 2)) 0) (eqb (r ! (c + 3)) 0) t in
-    let q = and-true (eqb (r ! c) 0 && eqb (r ! (c + 1)) 0) (eqb (r ! (c + 2)) 0) (p .0) in
-    let s = and-true (eqb (r ! c) 0) (eqb (r ! (c + 1)) 0) (q .0) in
-    record { a = zero-of r c (s .0); b = zero-of r (c + 1) (s .1); d = zero-of r (c + 2) (q .1); e = zero-of r (c + 3) (p .1) }
-
-pub record Zeros₇ (r : List ℕ) (c : ℕ) : Type 0 where
-  pub four : Zeros₄ r c
-  pub f : r ! (c + 4) ≡ 0
-  pub g : r ! (c + 5) ≡ 0
-  pub h : r ! (c + 6) ≡ 0
-
-zeros-seven : (r : List ℕ) (c : ℕ) → zeros₇ r c ≡ true → Zeros₇ r c
-unfolding zeros₇
-zeros-seven r c t =
-    let p = and-true (zeros₄ r c && eqb (r ! (c + 4)) 0 && eqb (r ! (c + 5)) 0) (eqb (r ! (c + 6)) 0) t in
-    let q = and-true (zeros₄ r c && eqb (r ! (c + 4)) 0) (eqb (r ! (c + 5)) 0) (p .0) in
-    let s = and-true (zeros₄ r c) (eqb (r ! (c + 4)) 0) (q .0) in
-    record { four = zeros-four r c (s .0); f = zero-of r (c + 4) (s .1); g = zero-of r (c + 5) (q .1); h = zero-of r (c + 6) (p .1) }
-
-module _ (source : List ℕ) (bs : Bytes source) where
-  -- ---- inputs
-
-  -- seven numbers of an issuance, but its position
-  pub record IssuanceAgrees (ns r : List ℕ) : Type 0 where
-    pub amountPrefix : r ! 7 ≡ getD ns 1 0
-    pub amountHigh : r ! 8 ≡ getD ns 2 0
-    pub amountLow : r ! 9 ≡ getD ns 3 0
-    pub keysPrefix : r ! 10 ≡ getD ns 4 0
-    pub keysHigh : r ! 11 ≡ getD ns 5 0
-    pub keysLow : r ! 12 ≡ getD ns 6 0
-
-  issuance-agrees : (at : ℕ) (r ws : List ℕ) → Words r → issuanceRule (length source) r ≡ true → IssuanceAgrees (issuanceColumns at (cond (issues r) (some (issuanceOf source r)) none) ++ ws) r
-  unfolding issuanceRule
-  issuance-agrees at r ws w e =
-      by-cases (issues r)
-      (λ i.
-      let rule = subst (λ (b : Bool). cond b (lies (length source) (r ! 6 + 64 + valueWidth (r ! 7)) (valueWidth (r ! 10)) && valueRule (r ! 7) (r ! 8) (r ! 9) && valueRule (r ! 10) (r ! 11) (r ! 12)) (zeros₇ r 6) ≡ true) i e in
-      let a = and-true (lies (length source) (r ! 6 + 64 + valueWidth (r ! 7)) (valueWidth (r ! 10)) && valueRule (r ! 7) (r ! 8) (r ! 9)) (valueRule (r ! 10) (r ! 11) (r ! 12)) rule in
-      let b = and-true (lies (length source) (r ! 6 + 64 + valueWidth (r ! 7)) (valueWidth (r ! 10))) (valueRule (r ! 7) (r ! 8) (r ! 9)) (a .0) in
-      let at₁ = r ! 6 + 64 in
-      let at₂ = at₁ + valueWidth (r ! 7) in
-      subst (λ (b : Bool). IssuanceAgrees (issuanceColumns at (cond b (some (issuanceOf source r)) none) ++ ws) r) (sym i)
-      (record {
-        amountPrefix = sym (value-prefix source at₁ (r ! 7) (r ! 8) (r ! 9));
-        amountHigh = sym (value-high source at₁ (r ! 7) (r ! 8) (r ! 9) (w 9) (b .1));
-        amountLow = sym (value-low source at₁ (r ! 7) (r ! 8) (r ! 9) (w 9) (b .1));
-        keysPrefix = sym (value-prefix source at₂ (r ! 10) (r ! 11) (r ! 12));
-        keysHigh = sym (value-high source at₂ (r ! 10) (r ! 11) (r ! 12) (w 12) (a .1));
-        keysLow = sym (value-low source at₂ (r ! 10) (r ! 11) (r ! 12) (w 12) (a .1));
-      }))
-      (λ i.
-      let z = zeros-seven r 6 (subst (λ (b : Bool). cond b (lies (length source) (r ! 6 + 64 + valueWidth (r ! 7)) (valueWidth (r ! 10)) && valueRule (r ! 7) (r ! 8) (r ! 9) && valueRule (r ! 10) (r ! 11) (r ! 12)) (zeros₇ r 6) ≡ true) i e) in
-      subst (λ (b : Bool). IssuanceAgrees (issuanceColumns at (cond b (some (issuanceOf source r)) none) ++ ws) r) (sym i)
-      (record { amountPrefix = z .four .b; amountHigh = z .four .d; amountLow = z .four .e; keysPrefix = z .f; keysHigh = z .g; keysLow = z .h }))
-
-  -- the seven numbers of a witness, but its positions
-  pub record WitnessAgrees (ns r : List ℕ) : Type 0 where
-    pub amountProofLength : r ! 14 ≡ getD ns 1 0
-    pub keysProofLength : r ! 16 ≡ getD ns 3 0
-    pub firstItem : r ! 17 ≡ getD ns 4 0
-    pub scriptItems : r ! 18 ≡ getD ns 5 0
-    pub peginItems : r ! 19 ≡ getD ns 6 0
-
-  input-agrees : (flag first at : ℕ) (r ns : List ℕ) → Words r → InputPasses source bs flag first r → WitnessAgrees ns r → InputAgrees r (inputColumns at (inputOf source r) ++ ns)
-  unfolding inputOf
-  input-agrees flag first at r ns w p q =
-      let parts = input-parts source bs flag first r (p .rule) in
-      let x = inputOf source r in
-      let at′ = at + 36 + length (bodyBytes (body source (r ! 3) (r ! 4))) + 4 in
-      let i = issuance-agrees at′ r ns w (parts .issuance) in
-      let row = inputColumns at x in
-      let c : (k : ℕ) → getD (row ++ ns) (13 + k) 0 ≡ getD ns k 0 = λ k. column row ns 13 k (input-long at x) in
-      record {
-        vout = refl;
-        flags = refl;
-        scriptLength = sym (body-long source bs (r ! 3) (r ! 4) (parts .script));
-        sequence = refl;
-        amountPrefix = i .amountPrefix;
-        amountHigh = i .amountHigh;
-        amountLow = i .amountLow;
-        keysPrefix = i .keysPrefix;
-        keysHigh = i .keysHigh;
-        keysLow = i .keysLow;
-        amountProofLength = q .amountProofLength ∙ sym (c 1);
-        keysProofLength = q .keysProofLength ∙ sym (c 3);
-        firstItem = q .firstItem ∙ sym (c 4);
-        scriptItems = q .scriptItems ∙ sym (c 5);
-        peginItems = q .peginItems ∙ sym (c 6);
-      }
-
-  module _ (items : List (List ℕ)) where
-    witness-agrees : (first at : ℕ) (r : List ℕ) → WitnessParts source bs first r → Counted source bs items r → WitnessAgrees (inputWitnessColumns first at (inputWitnessOf source items r)) r
-    witness-agrees first at r p c = record { amountProofLength = sym (c .amountProof); keysProofLength = sym (c .keysProof); firstItem = p .first-index; scriptItems = sym (c .script); peginItems = sym (c .pegin) }
-
-    inputs-agree : (rs : List (List ℕ)) (first at at′ : ℕ) → Every Words rs → InputsPass source bs 1 first rs → Every (Counted source bs items) rs → Each₂ InputAgrees rs (beside (placed inputBytes inputColumns at (map (inputOf source) rs)) (placedWitnesses first at′ (map (inputWitnessOf source items) rs)))
-    unfolding beside placed placedWitnesses
-    inputs-agree [] first at at′ w p c = tt
-    inputs-agree (r ∷ rs) first at at′ w p c =
-        let x = inputOf source r in
-        let y = inputWitnessOf source items r in
-        let later = placed inputBytes inputColumns (at + length (inputBytes x)) (map (inputOf source) rs) in
-        let counts : itemsOf y ≡ recordItems r = ap₂ (λ (a b : ℕ). a + b) (c .0 .script) (c .0 .pegin) in (
-          input-agrees 1 first at r (inputWitnessColumns first at′ y) (w .0) (p .0) (witness-agrees first at′ r (witness-parts source bs first r (input-parts source bs 1 first r (p .0 .rule) .witness)) (c .0)),
-          subst (λ (n : ℕ). Each₂ InputAgrees rs (beside later (placedWitnesses (first + n) (at′ + length (inputWitnessBytes y)) (map (inputWitnessOf source items) rs)))) (sym counts)
-              (inputs-agree rs (first + recordItems r) (at + length (inputBytes x)) (at′ + length (inputWitnessBytes y)) (w .1) (p .1) (c .1)),
-        )
-
-  bare-agrees : (first : ℕ) (r : List ℕ) → inputWitnessRule 0 (length source) first r ≡ true → WitnessAgrees (blanks 7) r
-  unfolding inputWitnessRule
-  bare-agrees first r e = let z = zeros-seven r 13 e in record { amountProofLength = z .four .b; keysProofLength = z .four .e; firstItem = z .f; scriptItems = z .g; peginItems = z .h }
-
-  bare-inputs-agree : (rs : List (List ℕ)) (first at : ℕ) → Every Words rs → InputsPass source bs 0 first rs → Each₂ InputAgrees rs (beside (placed inputBytes inputColumns at (map (inputOf source) rs)) (replicate (length rs) (blanks 7)))
-  unfolding beside placed
-  bare-inputs-agree [] first at w p = tt
-  bare-inputs-agree (r ∷ rs) first at w p = (
-    input-agrees 0 first at r (blanks 7) (w .0) (p .0) (bare-agrees first r (input-parts source bs 0 first r (p .0 .rule) .witness)),
-    bare-inputs-agree rs (first + recordItems r) (at + length (inputBytes (inputOf source r))) (w .1) (p .1),
-  )
-
-  -- ---- outputs
-
-  output-agrees : (flag at : ℕ) (r ns : List ℕ) → Words r → outputRule flag (length source) r ≡ true → r ! 11 ≡ getD ns 1 0 → r ! 13 ≡ getD ns 3 0 → OutputAgrees r (outputColumns at (outputOf source r) ++ ns)
-  unfolding outputOf
-  output-agrees flag at r ns w e a b =
-      let q = output-parts source bs flag r e in
-      record {
-        assetPrefix = sym (token-prefix source (r ! 1) (r ! 0));
-        valuePrefix = sym (value-prefix source (r ! 3) (r ! 2) (r ! 4) (r ! 5));
-        valueHigh = sym (value-high source (r ! 3) (r ! 2) (r ! 4) (r ! 5) (w 5) (q .value));
-        valueLow = sym (value-low source (r ! 3) (r ! 2) (r ! 4) (r ! 5) (w 5) (q .value));
-        noncePrefix = sym (token-prefix source (r ! 7) (r ! 6));
-        scriptLength = sym (body-long source bs (r ! 8) (r ! 9) (q .script));
-        surjectionProofLength = a;
-        rangeProofLength = b;
-      }
-
-  outputs-agree : (rs : List (List ℕ)) (at at′ : ℕ) → Every Words rs → Every (λ r. outputRule 1 (length source) r ≡ true) rs → Each₂ OutputAgrees rs (beside (placed outputBytes outputColumns at (map (outputOf source) rs)) (placed outputWitnessBytes outputWitnessColumns at′ (map (outputWitnessOf source) rs)))
-  unfolding beside placed outputWitnessOf
-  outputs-agree [] at at′ w p = tt
-  outputs-agree (r ∷ rs) at at′ w p =
-      let y = outputWitnessOf source r in
-      let q = output-witness-parts source bs r (output-parts source bs 1 r (p .0) .witness) in (
-        output-agrees 1 at r (outputWitnessColumns at′ y) (w .0) (p .0) (sym (body-long source bs (r ! 10) (r ! 11) (q .0))) (sym (body-long source bs (r ! 12) (r ! 13) (q .1))),
-        outputs-agree rs (at + length (outputBytes (outputOf source r))) (at′ + length (outputWitnessBytes y)) (w .1) (p .1),
-      )
-
-  bare-outputs-agree : (rs : List (List ℕ)) (at : ℕ) → Every Words rs → Every (λ r. outputRule 0 (length source) r ≡ true) rs → Each₂ OutputAgrees rs (beside (placed outputBytes outputColumns at (map (outputOf source) rs)) (replicate (length rs) (blanks 4)))
-  unfolding beside placed outputWitnessRule
-  bare-outputs-agree [] at w p = tt
-  bare-outputs-agree (r ∷ rs) at w p =
-      let z = zeros-four r 10 (output-parts source bs 0 r (p .0) .witness) in (
-        output-agrees 0 at r (blanks 4) (w .0) (p .0) (z .b) (z .e),
-        bare-outputs-agree rs (at + length (outputBytes (outputOf source r))) (w .1) (p .1),
-      )
-
-  -- ---- items
-
-  each-of-maps : (f : List ℕ → ℕ) (rs ss : List (List ℕ)) → map f rs ≡ map f ss → Each₂ (λ r s. f r ≡ f s) rs ss
-  each-of-maps f [] [] e = tt
-  each-of-maps f [] (s ∷ ss) e = let z : _≡_ {A = ℕ} 0 (suc (length (map f ss))) = ap (λ (l : List ℕ). length l) e in absurd (omega arith)
-  each-of-maps f (r ∷ rs) [] e = let z : _≡_ {A = ℕ} (suc (length (map f rs))) 0 = ap (λ (l : List ℕ). length l) e in absurd (omega arith)
-  each-of-maps f (r ∷ rs) (s ∷ ss) e = (ap (λ (l : List ℕ). getD l 0 0) e, each-of-maps f rs ss (ap (λ (l : List ℕ). drop 1 l) e))
-
-  -- the stacks, one behind the other, are all items from the first index on
-  stacks-all : (items rs : List (List ℕ)) (first : ℕ) → InputsPass source bs 1 first rs → first + sum recordItems rs ≡ length items → bodies source (map (inputWitnessOf source items) rs) ≡ drop first items
-  unfolding bodies sum inputWitnessOf
-  stacks-all items [] first p e = let all-gone : length items ≤ first = omega arith in sym (drop-of-length-le items all-gone)
-  stacks-all items (r ∷ rs) first p e =
-      let i = witness-parts source bs first r (input-parts source bs 1 first r (p .0 .rule) .witness) .first-index in
-      let a = r ! 18 in
-      let b = r ! 19 in
-      let rest = stacks-all items rs (first + recordItems r) (p .1) (omega arith) in
-      let next : drop (first + (a + b)) items ≡ drop b (drop (first + a) items) = ap (λ (n : ℕ). drop n items) (sym (add-assoc first a b)) ∙ sym (drop-drop b (first + a) items) in
-      (λ j. (take a (drop (i j) items) ++ take b (drop (i j + a) items)) ++ rest j)
-      ∙ append-assoc (take a (drop first items)) (take b (drop (first + a) items)) (drop (first + (a + b)) items)
-      ∙ ap (λ (l : List (List ℕ)). take a (drop first items) ++ (take b (drop (first + a) items) ++ l)) next
-      ∙ ap (λ (l : List (List ℕ)). take a (drop first items) ++ l) (take-append-drop b (drop (first + a) items) ∙ sym (drop-drop a first items))
-      ∙ take-append-drop a (drop first items)
-
-  -- lengths of item records
-  stack-lengths : (at : ℕ) (xs : List (List ℕ)) → map (λ r. r ! 1) (placed bodyBytes bodyColumns at xs) ≡ map (λ x. length x) xs
-  unfolding placed
-  stack-lengths at [] = refl
-  stack-lengths at (x ∷ xs) = ap (λ (l : List ℕ). length x ∷ l) (stack-lengths (at + length (bodyBytes x)) xs)
-
-  witness-lengths : (at : ℕ) (ws : List InputWitness) → map (λ r. r ! 1) (witnessesItems at ws) ≡ map (λ x. length x) (bodies source ws)
-  unfolding witnessesItems bodies
-  witness-lengths at [] = refl
-  witness-lengths at (x ∷ ws) =
-      let at₁ = at + length (bodyBytes (x .amountProof)) + length (bodyBytes (x .keysProof)) in
-      let p = stackRecords at₁ (x .scriptItems) in
-      let q = stackRecords (at₁ + length (listBytes bodyBytes (x .scriptItems))) (x .peginItems) in
-      let long : List ℕ → ℕ = λ y. length y in
-      let col : List ℕ → ℕ = λ r. r ! 1 in
-      map-append col (p ++ q) (witnessesItems (at + length (inputWitnessBytes x)) ws)
-      ∙ ap₂ (λ (l m : List ℕ). l ++ m)
-      (map-append col p q ∙ ap₂ (λ (l m : List ℕ). l ++ m) (stack-lengths _ (x .scriptItems)) (stack-lengths _ (x .peginItems)) ∙ sym (map-append long (x .scriptItems) (x .peginItems)))
-      (witness-lengths (at + length (inputWitnessBytes x)) ws)
-      ∙ sym (map-append long (x .scriptItems ++ x .peginItems) (bodies source ws))
-
-  item-lengths : (rs : List (List ℕ)) → Every (λ r. itemRule 1 (length source) r ≡ true) rs → map (λ r. r ! 1) rs ≡ map (λ x. length x) (map (itemOf source) rs)
-  unfolding itemRule itemOf
-  item-lengths [] g = refl
-  item-lengths (r ∷ rs) g = ap₂ (λ (n : ℕ) (l : List ℕ). n ∷ l) (sym (body-long source bs (r ! 0) (r ! 1) (g .0))) (item-lengths rs (g .1))
-
-no-records : (xs : List ℕ) → Each₂ (λ r s. r ! 1 ≡ s ! 1) (records 2 0 xs) []
-unfolding records
-no-records xs = tt
-
--- ---- the whole
-
 -- Two tables of these counts agree in all but positions.
 pub record RecordsAgree (h : Head) (t u : Tables) : Type 0 where
   pub inputs : Each₂ InputAgrees (inputRecords h t) (inputRecords h u)
   pub outputs : Each₂ OutputAgrees (outputRecords h t) (outputRecords h u)
   pub items : Each₂ (λ r s. r ! 1 ≡ s ! 1) (itemRecords h t) (itemRecords h u)
 
-module _ (source : List ℕ) (bs : Bytes source) (h : Head) (t : Tables) (p : Passed source bs h t) (wi : Words (t .inputs)) (wo : Words (t .outputs)) (at at′ at″ : ℕ) where
-  abbrev ins : List (List ℕ)
-  ins = inputRecords h t
+-- ---- bodies, by plain take and drop, so that nothing but the columns is believed
 
-  abbrev outs : List (List ℕ)
-  outs = outputRecords h t
+abbrev pub at : List ℕ → ℕ → ℕ → List ℕ
+at source p n = take n (drop p source)
 
-  abbrev its : List (List ℕ)
-  its = map (itemOf source) (itemRecords h t)
+-- the amount's 1, 9 or 33 bytes, by its prefix
+abbrev pub amountWidth : ℕ → ℕ
+amountWidth zero = 1
+amountWidth (suc zero) = 9
+amountWidth (suc (suc n)) = 33
 
-  abbrev optional : Bool → Option Witnesses
-  optional b = cond b (some (witnessesOf h t source)) none
+-- The four of an issuance where its flag is there; a commitment's where the prefix is one's. In an issuance, amount starts 64 after its
+-- position and keys after the amount.
+pub record InputBodies (source back r s : List ℕ) : Type 0 where
+  pub txid : at source (r ! 0) 32 ≡ at back (s ! 0) 32
+  pub script : at source (r ! 3) (r ! 4) ≡ at back (s ! 3) (s ! 4)
+  pub blindingNonce : 2 ≤ r ! 2 → at source (r ! 6) 32 ≡ at back (s ! 6) 32
+  pub entropy : 2 ≤ r ! 2 → at source (r ! 6 + 32) 32 ≡ at back (s ! 6 + 32) 32
+  pub amount : 2 ≤ r ! 2 → 2 ≤ r ! 7 → at source (r ! 6 + 64 + 1) 32 ≡ at back (s ! 6 + 64 + 1) 32
+  pub keys : 2 ≤ r ! 2 → 2 ≤ r ! 10 → at source (r ! 6 + 64 + amountWidth (r ! 7) + 1) 32 ≡ at back (s ! 6 + 64 + amountWidth (s ! 7) + 1) 32
+  pub amountProof : at source (r ! 13) (r ! 14) ≡ at back (s ! 13) (s ! 14)
+  pub keysProof : at source (r ! 15) (r ! 16) ≡ at back (s ! 15) (s ! 16)
 
-  its-length : length its ≡ h .items
-  its-length = length-map (itemRecords h t) (itemOf source) ∙ records-length 2 (h .items) (t .items)
+pub record OutputBodies (source back r s : List ℕ) : Type 0 where
+  pub asset : 1 ≤ r ! 0 → at source (r ! 1 + 1) 32 ≡ at back (s ! 1 + 1) 32
+  pub value : 2 ≤ r ! 2 → at source (r ! 3 + 1) 32 ≡ at back (s ! 3 + 1) 32
+  pub nonce : 1 ≤ r ! 6 → at source (r ! 7 + 1) 32 ≡ at back (s ! 7 + 1) 32
+  pub script : at source (r ! 8) (r ! 9) ≡ at back (s ! 8) (s ! 9)
+  pub surjectionProof : at source (r ! 10) (r ! 11) ≡ at back (s ! 10) (s ! 11)
+  pub rangeProof : at source (r ! 12) (r ! 13) ≡ at back (s ! 12) (s ! 13)
 
-  pub rows-agree : (n m : ℕ) → n ≡ length ins → m ≡ length outs → Each₂ InputAgrees ins (beside (placed inputBytes inputColumns at (map (inputOf source) ins)) (inputWitnessRecords at″ n (optional (eqb (h .flag) 1)))) × Each₂ OutputAgrees outs (beside (placed outputBytes outputColumns at′ (map (outputOf source) outs)) (outputWitnessRecords at″ m (optional (eqb (h .flag) 1)))) × Each₂ (λ r s. r ! 1 ≡ s ! 1) (itemRecords h t) (allItems at″ (optional (eqb (h .flag) 1)))
-  rows-agree n m en em =
-      let w₁ = records-words 20 (h .inputs) (t .inputs) wi in
-      let w₂ = records-words 14 (h .outputs) (t .outputs) wo in
-      by-cases (eqb (h .flag) 1)
-      (λ e.
-      let one = eqb-true (h .flag) 1 e in
-      let q = subst (λ (f : ℕ). InputsPass source bs f 0 ins) one (p .inputs) in
-      let o = subst (λ (f : ℕ). Every (λ r. outputRule f (length source) r ≡ true) outs) one (p .outputs) in
-      let i = subst (λ (f : ℕ). Every (λ r. itemRule f (length source) r ≡ true) (itemRecords h t)) one (p .items) in
-      let whole : 0 + sum recordItems ins ≡ length its = omega (arith, p .added, its-length) in
-      let c = all-counted source bs its 0 ins q (omega arith) in
-      let stacks : bodies source (map (inputWitnessOf source its) ins) ≡ its = stacks-all source bs its ins 0 q whole in
-      rw e (
-        inputs-agree source bs its ins 0 at at″ w₁ q c,
-        outputs-agree source bs outs at′ _ w₂ o,
-        each-of-maps source bs (λ r. r ! 1) (itemRecords h t) (witnessesItems at″ (map (inputWitnessOf source its) ins)) (item-lengths source bs (itemRecords h t) i ∙ sym (witness-lengths source bs at″ (map (inputWitnessOf source its) ins) ∙ ap (map (λ x. length x)) stacks)),
-      ))
-      (λ e.
-      let zeroth : h .flag ≡ 0 = omega (arith, eqb-false (h .flag) 1 e, p .flag) in
-      let q = subst (λ (f : ℕ). InputsPass source bs f 0 ins) zeroth (p .inputs) in
-      let o = subst (λ (f : ℕ). Every (λ r. outputRule f (length source) r ≡ true) outs) zeroth (p .outputs) in
-      let empty : h .items ≡ 0 = sym (p .added) ∙ no-items source bs h t p 0 ins q in
-      rw e (
-        subst (λ (k : ℕ). Each₂ InputAgrees ins (beside (placed inputBytes inputColumns at (map (inputOf source) ins)) (replicate k (blanks 7)))) (sym en) (bare-inputs-agree source bs ins 0 at w₁ q),
-        subst (λ (k : ℕ). Each₂ OutputAgrees outs (beside (placed outputBytes outputColumns at′ (map (outputOf source) outs)) (replicate k (blanks 4)))) (sym em) (bare-outputs-agree source bs outs at′ w₂ o),
-        subst (λ (k : ℕ). Each₂ (λ r s. r ! 1 ≡ s ! 1) (records 2 k (t .items)) []) (sym empty) (no-records (t .items)),
-      ))
+-- script items and pegin items, one behind the other
+pub record ItemBody (source back r s : List ℕ) : Type 0 where
+  pub body : at source (r ! 0) (r ! 1) ≡ at back (s ! 0) (s ! 1)
+
+-- Each body by the columns of two tables, over its own source each: of record i, so many numbers wide.
+abbrev pub recordAt : ℕ → List ℕ → ℕ → List ℕ
+recordAt w xs i = take w (drop (w * i) xs)
+
+pub record BodiesSame (h : Head) (t u : Tables) (source back : List ℕ) : Type 0 where
+  pub inputs : (i : ℕ) → i < h .inputs → InputBodies source back (recordAt 20 (t .inputs) i) (recordAt 20 (u .inputs) i)
+  pub outputs : (i : ℕ) → i < h .outputs → OutputBodies source back (recordAt 14 (t .outputs) i) (recordAt 14 (u .outputs) i)
+  pub items : (i : ℕ) → i < h .items → ItemBody source back (recordAt 2 (t .items) i) (recordAt 2 (u .items) i)
+
+-- what holds record for record holds at each number
+pub at-each : (P : List ℕ → List ℕ → Type 0) (w n : ℕ) (xs ys : List ℕ) → Each₂ P (records w n xs) (records w n ys) → (i : ℕ) → i < n → P (recordAt w xs i) (recordAt w ys i)
+unfolding records
+at-each P w zero xs ys e i l = absurd (omega arith)
+at-each P w (suc n) xs ys e zero l = let front : 0 ≡ w * 0 = sym (mul-zero w) in subst (λ (m : ℕ). P (take w (drop m xs)) (take w (drop m ys))) front (e .0)
+at-each P w (suc n) xs ys e (suc i) l =
+    let at : w + w * i ≡ w * suc i = add-comm w (w * i) ∙ sym (mul-suc w i) in
+    let moved : (zs : List ℕ) → take w (drop (w * i) (drop w zs)) ≡ take w (drop (w * suc i) zs) = λ zs. ap (take w) (drop-drop (w * i) w zs ∙ ap (λ (m : ℕ). drop m zs) at) in
+    let p = at-each P w n (drop w xs) (drop w ys) (e .1) i (omega arith) in
+    subst (λ (r : List ℕ). P r (recordAt w ys (suc i))) (moved xs) (subst (λ (r : List ℕ). P (take w (drop (w * i) (drop w xs))) r) (moved ys) p)
+
+module _ (source back : List ℕ) where
+  -- one body from both
+  same-body : (p q n m : ℕ) (xs : List ℕ) → From source p xs → From back q xs → n ≡ length xs → m ≡ length xs → at source p n ≡ at back q m
+  same-body p q n m xs a b e f = (λ j. at source p (e j)) ∙ a .same ∙ sym ((λ j. at back q (f j)) ∙ b .same)
+
+  none-of : (p q n m : ℕ) → n ≡ 0 → m ≡ 0 → at source p n ≡ at back q m
+  none-of p q n m e f = (λ j. at source p (e j)) ∙ sym (λ j. at back q (f j))
+
+  same-value : (p q : ℕ) (v : Value) → ValueAllowed v → ValueFrom source p v → ValueFrom back q v → 2 ≤ valuePrefix v → at source (p + 1) 32 ≡ at back (q + 1) 32
+  same-value p q null g a b l = absurd (omega arith)
+  same-value p q (explicit v) g a b l = absurd (omega arith)
+  same-value p q (commitment c part) g a b l = same-body (p + 1) (q + 1) 32 32 part a b (sym (g .1 .long)) (sym (g .1 .long))
+
+  same-token : (listed : ℕ → Bool) (p q : ℕ) (t : Token) → TokenAllowed listed t → TokenFrom source p t → TokenFrom back q t → 1 ≤ tokenPrefix t → at source (p + 1) 32 ≡ at back (q + 1) 32
+  same-token listed p q absent g a b l = absurd (omega arith)
+  same-token listed p q (present c part) g a b l = same-body (p + 1) (q + 1) 32 32 part a b (sym (g .1 .long)) (sym (g .1 .long))
+
+  amount-width : (v : Value) → ValueAllowed v → amountWidth (valuePrefix v) ≡ length (valueBytes v)
+  unfolding valueBytes
+  amount-width null g = refl
+  amount-width (explicit v) g = sym (ap suc (length-bytes _ 8 v))
+  amount-width (commitment p part) g = listed-width p (g .0) ∙ sym (ap suc (g .1 .long))
+    where
+      listed-width : (p : ℕ) → commitmentPrefix p ≡ true → amountWidth p ≡ 33
+      listed-width zero e = absurd (true-not-false (sym e))
+      listed-width (suc zero) e = absurd (true-not-false (sym e))
+      listed-width (suc (suc n)) e = refl
+
+  -- ---- one record of each
+
+  record IssuanceTwo (r s : List ℕ) : Type 0 where
+    amountPrefix : r ! 7 ≡ s ! 7
+    amountHigh : r ! 8 ≡ s ! 8
+    amountLow : r ! 9 ≡ s ! 9
+    keysPrefix : r ! 10 ≡ s ! 10
+    keysHigh : r ! 11 ≡ s ! 11
+    keysLow : r ! 12 ≡ s ! 12
+    blindingNonce : 2 ≤ r ! 2 → at source (r ! 6) 32 ≡ at back (s ! 6) 32
+    entropy : 2 ≤ r ! 2 → at source (r ! 6 + 32) 32 ≡ at back (s ! 6 + 32) 32
+    amount : 2 ≤ r ! 2 → 2 ≤ r ! 7 → at source (r ! 6 + 64 + 1) 32 ≡ at back (s ! 6 + 64 + 1) 32
+    keys : 2 ≤ r ! 2 → 2 ≤ r ! 10 → at source (r ! 6 + 64 + amountWidth (r ! 7) + 1) 32 ≡ at back (s ! 6 + 64 + amountWidth (s ! 7) + 1) 32
+
+  issuance-two : (flags : ℕ) (o : Option Issuance) → Flagged flags o → (r s : List ℕ) → r ! 2 ≡ flags → MaybeIssuance source r o → MaybeIssuance back s o → IssuanceTwo r s
+  issuance-two flags none g r s e a b =
+      record {
+        amountPrefix = a .1 .0 ∙ sym (b .1 .0);
+        amountHigh = a .1 .1 .0 ∙ sym (b .1 .1 .0);
+        amountLow = a .1 .1 .1 .0 ∙ sym (b .1 .1 .1 .0);
+        keysPrefix = a .1 .1 .1 .1 .0 ∙ sym (b .1 .1 .1 .1 .0);
+        keysHigh = a .1 .1 .1 .1 .1 .0 ∙ sym (b .1 .1 .1 .1 .1 .0);
+        keysLow = a .1 .1 .1 .1 .1 .1 .0 ∙ sym (b .1 .1 .1 .1 .1 .1 .0);
+        blindingNonce = λ l. absurd (omega arith);
+        entropy = λ l. absurd (omega arith);
+        amount = λ l. absurd (omega arith);
+        keys = λ l. absurd (omega arith);
+      }
+  issuance-two flags (some x) g r s e a b =
+      let w = amount-width (x .amount) (g .2 .amount) in
+      let p : r ! 6 + 64 + amountWidth (r ! 7) ≡ r ! 6 + 64 + length (valueBytes (x .amount)) = ap (λ (n : ℕ). r ! 6 + 64 + n) (ap amountWidth (a .amountPrefix) ∙ w) in
+      let q : s ! 6 + 64 + amountWidth (s ! 7) ≡ s ! 6 + 64 + length (valueBytes (x .amount)) = ap (λ (n : ℕ). s ! 6 + 64 + n) (ap amountWidth (b .amountPrefix) ∙ w) in
+      record {
+        amountPrefix = a .amountPrefix ∙ sym (b .amountPrefix);
+        amountHigh = a .amountHigh ∙ sym (b .amountHigh);
+        amountLow = a .amountLow ∙ sym (b .amountLow);
+        keysPrefix = a .keysPrefix ∙ sym (b .keysPrefix);
+        keysHigh = a .keysHigh ∙ sym (b .keysHigh);
+        keysLow = a .keysLow ∙ sym (b .keysLow);
+        blindingNonce = λ l. same-body (r ! 6) (s ! 6) 32 32 (x .blindingNonce) (a .blindingNonce) (b .blindingNonce) (sym (g .2 .blindingNonce .long)) (sym (g .2 .blindingNonce .long));
+        entropy = λ l. same-body (r ! 6 + 32) (s ! 6 + 32) 32 32 (x .entropy) (a .entropy) (b .entropy) (sym (g .2 .entropy .long)) (sym (g .2 .entropy .long));
+        amount = λ l m. same-value (r ! 6 + 64) (s ! 6 + 64) (x .amount) (g .2 .amount) (a .amount) (b .amount) (omega (arith, a .amountPrefix));
+        keys = λ l m.
+            same-value (r ! 6 + 64 + amountWidth (r ! 7)) (s ! 6 + 64 + amountWidth (s ! 7)) (x .keys) (g .2 .keys)
+            (subst (λ (n : ℕ). ValueFrom source n (x .keys)) (sym p) (a .keys)) (subst (λ (n : ℕ). ValueFrom back n (x .keys)) (sym q) (b .keys)) (omega (arith, a .keysPrefix));
+      }
+
+  record WitnessTwo (r s : List ℕ) : Type 0 where
+    amountProofLength : r ! 14 ≡ s ! 14
+    keysProofLength : r ! 16 ≡ s ! 16
+    firstItem : r ! 17 ≡ s ! 17
+    scriptItems : r ! 18 ≡ s ! 18
+    peginItems : r ! 19 ≡ s ! 19
+    amountProof : at source (r ! 13) (r ! 14) ≡ at back (s ! 13) (s ! 14)
+    keysProof : at source (r ! 15) (r ! 16) ≡ at back (s ! 15) (s ! 16)
+
+  witness-two : (first : ℕ) (r s : List ℕ) (x : InputWitness) → InputWitnessShown source first r x → InputWitnessShown back first s x → WitnessTwo r s
+  witness-two first r s x a b =
+      record {
+        amountProofLength = a .amountProofLength ∙ sym (b .amountProofLength);
+        keysProofLength = a .keysProofLength ∙ sym (b .keysProofLength);
+        firstItem = a .firstItem ∙ sym (b .firstItem);
+        scriptItems = a .scriptItems ∙ sym (b .scriptItems);
+        peginItems = a .peginItems ∙ sym (b .peginItems);
+        amountProof = same-body (r ! 13) (s ! 13) (r ! 14) (s ! 14) (x .amountProof) (a .amountProof) (b .amountProof) (a .amountProofLength) (b .amountProofLength);
+        keysProof = same-body (r ! 15) (s ! 15) (r ! 16) (s ! 16) (x .keysProof) (a .keysProof) (b .keysProof) (a .keysProofLength) (b .keysProofLength);
+      }
+
+  no-witness-two : (r s : List ℕ) → Zeros r 13 7 → Zeros s 13 7 → WitnessTwo r s
+  no-witness-two r s a b =
+      record {
+        amountProofLength = a .1 .0 ∙ sym (b .1 .0);
+        keysProofLength = a .1 .1 .1 .0 ∙ sym (b .1 .1 .1 .0);
+        firstItem = a .1 .1 .1 .1 .0 ∙ sym (b .1 .1 .1 .1 .0);
+        scriptItems = a .1 .1 .1 .1 .1 .0 ∙ sym (b .1 .1 .1 .1 .1 .0);
+        peginItems = a .1 .1 .1 .1 .1 .1 .0 ∙ sym (b .1 .1 .1 .1 .1 .1 .0);
+        amountProof = none-of (r ! 13) (s ! 13) (r ! 14) (s ! 14) (a .1 .0) (b .1 .0);
+        keysProof = none-of (r ! 15) (s ! 15) (r ! 16) (s ! 16) (a .1 .1 .1 .0) (b .1 .1 .1 .0);
+      }
+
+  input-two : (r s : List ℕ) (x : Input) → InputAllowed x → InputShown source r x → InputShown back s x → WitnessTwo r s → InputAgrees r s × InputBodies source back r s
+  input-two r s x g a b w =
+      let i = issuance-two (x .flags) (x .issuance) (g .issuance) r s (a .flags) (a .issuance) (b .issuance) in (
+        record {
+          vout = a .vout ∙ sym (b .vout);
+          flags = a .flags ∙ sym (b .flags);
+          scriptLength = a .scriptLength ∙ sym (b .scriptLength);
+          sequence = a .sequence ∙ sym (b .sequence);
+          amountPrefix = i .amountPrefix;
+          amountHigh = i .amountHigh;
+          amountLow = i .amountLow;
+          keysPrefix = i .keysPrefix;
+          keysHigh = i .keysHigh;
+          keysLow = i .keysLow;
+          amountProofLength = w .amountProofLength;
+          keysProofLength = w .keysProofLength;
+          firstItem = w .firstItem;
+          scriptItems = w .scriptItems;
+          peginItems = w .peginItems;
+        },
+        record {
+          txid = same-body (r ! 0) (s ! 0) 32 32 (x .txid) (a .txid) (b .txid) (sym (g .txid .long)) (sym (g .txid .long));
+          script = same-body (r ! 3) (s ! 3) (r ! 4) (s ! 4) (x .script) (a .script) (b .script) (a .scriptLength) (b .scriptLength);
+          blindingNonce = i .blindingNonce;
+          entropy = i .entropy;
+          amount = i .amount;
+          keys = i .keys;
+          amountProof = w .amountProof;
+          keysProof = w .keysProof;
+        },
+      )
+
+  record OutputWitnessTwo (r s : List ℕ) : Type 0 where
+    surjectionProofLength : r ! 11 ≡ s ! 11
+    rangeProofLength : r ! 13 ≡ s ! 13
+    surjectionProof : at source (r ! 10) (r ! 11) ≡ at back (s ! 10) (s ! 11)
+    rangeProof : at source (r ! 12) (r ! 13) ≡ at back (s ! 12) (s ! 13)
+
+  output-witness-two : (r s : List ℕ) (x : OutputWitness) → OutputWitnessShown source r x → OutputWitnessShown back s x → OutputWitnessTwo r s
+  output-witness-two r s x a b =
+      record {
+        surjectionProofLength = a .surjectionProofLength ∙ sym (b .surjectionProofLength);
+        rangeProofLength = a .rangeProofLength ∙ sym (b .rangeProofLength);
+        surjectionProof = same-body (r ! 10) (s ! 10) (r ! 11) (s ! 11) (x .surjectionProof) (a .surjectionProof) (b .surjectionProof) (a .surjectionProofLength) (b .surjectionProofLength);
+        rangeProof = same-body (r ! 12) (s ! 12) (r ! 13) (s ! 13) (x .rangeProof) (a .rangeProof) (b .rangeProof) (a .rangeProofLength) (b .rangeProofLength);
+      }
+
+  no-output-witness-two : (r s : List ℕ) → Zeros r 10 4 → Zeros s 10 4 → OutputWitnessTwo r s
+  no-output-witness-two r s a b =
+      record {
+        surjectionProofLength = a .1 .0 ∙ sym (b .1 .0);
+        rangeProofLength = a .1 .1 .1 .0 ∙ sym (b .1 .1 .1 .0);
+        surjectionProof = none-of (r ! 10) (s ! 10) (r ! 11) (s ! 11) (a .1 .0) (b .1 .0);
+        rangeProof = none-of (r ! 12) (s ! 12) (r ! 13) (s ! 13) (a .1 .1 .1 .0) (b .1 .1 .1 .0);
+      }
+
+  output-two : (r s : List ℕ) (x : Output) → OutputAllowed x → OutputShown source r x → OutputShown back s x → OutputWitnessTwo r s → OutputAgrees r s × OutputBodies source back r s
+  output-two r s x g a b w = (
+    record {
+      assetPrefix = a .assetPrefix ∙ sym (b .assetPrefix);
+      valuePrefix = a .valuePrefix ∙ sym (b .valuePrefix);
+      valueHigh = a .valueHigh ∙ sym (b .valueHigh);
+      valueLow = a .valueLow ∙ sym (b .valueLow);
+      noncePrefix = a .noncePrefix ∙ sym (b .noncePrefix);
+      scriptLength = a .scriptLength ∙ sym (b .scriptLength);
+      surjectionProofLength = w .surjectionProofLength;
+      rangeProofLength = w .rangeProofLength;
+    },
+    record {
+      asset = λ l. same-token assetPrefix (r ! 1) (s ! 1) (x .asset) (g .asset) (a .asset) (b .asset) (omega (arith, a .assetPrefix));
+      value = λ l. same-value (r ! 3) (s ! 3) (x .value) (g .value) (a .value) (b .value) (omega (arith, a .valuePrefix));
+      nonce = λ l. same-token noncePrefix (r ! 7) (s ! 7) (x .nonce) (g .nonce) (a .nonce) (b .nonce) (omega (arith, a .noncePrefix));
+      script = same-body (r ! 8) (s ! 8) (r ! 9) (s ! 9) (x .script) (a .script) (b .script) (a .scriptLength) (b .scriptLength);
+      surjectionProof = w .surjectionProof;
+      rangeProof = w .rangeProof;
+    },
+  )
+
+  -- ---- lists of records
+
+  -- two of one thing
+  each-two : {X : Type 0} (P Q : List ℕ → X → Type 0) (R : List ℕ → List ℕ → Type 0) → ((r s : List ℕ) (x : X) → P r x → Q s x → R r s) → (rs ss : List (List ℕ)) (xs : List X) → Each P rs xs → Each Q ss xs → Each₂ R rs ss
+  each-two P Q R one [] [] xs a b = tt
+  each-two P Q R one [] (s ∷ ss) [] a b = absurd b
+  each-two P Q R one [] (s ∷ ss) (x ∷ xs) a b = absurd a
+  each-two P Q R one (r ∷ rs) [] [] a b = absurd a
+  each-two P Q R one (r ∷ rs) [] (x ∷ xs) a b = absurd b
+  each-two P Q R one (r ∷ rs) (s ∷ ss) [] a b = absurd a
+  each-two P Q R one (r ∷ rs) (s ∷ ss) (x ∷ xs) a b = (one r s x (a .0) (b .0), each-two P Q R one rs ss xs (a .1) (b .1))
+
+  -- beside what is known of both already
+  each-more : {X : Type 0} (Good : X → Type 0) (P Q : List ℕ → X → Type 0) (W R : List ℕ → List ℕ → Type 0) → ((r s : List ℕ) (x : X) → Good x → P r x → Q s x → W r s → R r s) → (rs ss : List (List ℕ)) (xs : List X) → Every Good xs → Each P rs xs → Each Q ss xs → Each₂ W rs ss → Each₂ R rs ss
+  each-more Good P Q W R one [] [] xs g a b w = tt
+  each-more Good P Q W R one [] (s ∷ ss) xs g a b w = absurd w
+  each-more Good P Q W R one (r ∷ rs) [] xs g a b w = absurd w
+  each-more Good P Q W R one (r ∷ rs) (s ∷ ss) [] g a b w = absurd a
+  each-more Good P Q W R one (r ∷ rs) (s ∷ ss) (x ∷ xs) g a b w = (one r s x (g .0) (a .0) (b .0) (w .0), each-more Good P Q W R one rs ss xs (g .1) (a .1) (b .1) (w .1))
+
+  each-every : (Z : List ℕ → Type 0) (R : List ℕ → List ℕ → Type 0) → ((r s : List ℕ) → Z r → Z s → R r s) → (rs ss : List (List ℕ)) → length rs ≡ length ss → Every Z rs → Every Z ss → Each₂ R rs ss
+  each-every Z R one [] [] e a b = tt
+  each-every Z R one [] (s ∷ ss) e a b = absurd (omega arith)
+  each-every Z R one (r ∷ rs) [] e a b = absurd (omega arith)
+  each-every Z R one (r ∷ rs) (s ∷ ss) e a b = (one r s (a .0) (b .0), each-every Z R one rs ss (omega arith) (a .1) (b .1))
+
+  each-so : (P Q : List ℕ → List ℕ → Type 0) → ((r s : List ℕ) → P r s → Q r s) → (rs ss : List (List ℕ)) → Each₂ P rs ss → Each₂ Q rs ss
+  each-so P Q f [] [] e = tt
+  each-so P Q f [] (s ∷ ss) e = e
+  each-so P Q f (r ∷ rs) [] e = e
+  each-so P Q f (r ∷ rs) (s ∷ ss) e = (f r s (e .0), each-so P Q f rs ss (e .1))
+
+  witnesses-two : (first : ℕ) (rs ss : List (List ℕ)) (xs : List InputWitness) → EachWitness source first rs xs → EachWitness back first ss xs → Each₂ WitnessTwo rs ss
+  witnesses-two first [] [] xs a b = tt
+  witnesses-two first [] (s ∷ ss) [] a b = absurd b
+  witnesses-two first [] (s ∷ ss) (x ∷ xs) a b = absurd a
+  witnesses-two first (r ∷ rs) [] [] a b = absurd a
+  witnesses-two first (r ∷ rs) [] (x ∷ xs) a b = absurd b
+  witnesses-two first (r ∷ rs) (s ∷ ss) [] a b = absurd a
+  witnesses-two first (r ∷ rs) (s ∷ ss) (x ∷ xs) a b = (witness-two first r s x (a .0) (b .0), witnesses-two (first + itemsOf x) rs ss xs (a .1) (b .1))
+
+-- ---- the whole
+
+module _ (x : Contents) (h h′ : Head) (t t′ : Tables) (source back : List ℕ) (g : Parts source x) (a : Shows h t source x) (b : Shows h′ t′ back x) where
+  same-length : (w n m : ℕ) (xs ys : List ℕ) → n ≡ m → length (records w n xs) ≡ length (records w m ys)
+  same-length w n m xs ys e = records-length w n xs ∙ e ∙ sym (records-length w m ys)
+
+  -- the item records, which are none without witnesses
+  abbrev Items : Type 0
+  Items = Each₂ (λ r s. (r ! 1 ≡ s ! 1) × ItemBody source back r s) (itemRecords h t) (itemRecords h′ t′)
+
+  none-two : (n m : ℕ) (xs ys : List ℕ) → n ≡ 0 → m ≡ 0 → (R : List ℕ → List ℕ → Type 0) → Each₂ R (records 2 n xs) (records 2 m ys)
+  unfolding records
+  none-two n m xs ys e f R = subst (λ (k : ℕ). Each₂ R (records 2 k xs) (records 2 m ys)) (sym e) (subst (λ (k : ℕ). Each₂ R [] (records 2 k ys)) (sym f) tt)
+
+  witnesses-both : (o : Option Witnesses) → h .items ≡ itemCount o → h′ .items ≡ itemCount o → MaybeWitnesses h t source o → MaybeWitnesses h′ t′ back o → Each₂ (WitnessTwo source back) (inputRecords h t) (inputRecords h′ t′) × Each₂ (OutputWitnessTwo source back) (outputRecords h t) (outputRecords h′ t′) × Items
+  witnesses-both none e f p q = (
+    each-every source back (λ r. Zeros r 13 7) (WitnessTwo source back) (no-witness-two source back) (inputRecords h t) (inputRecords h′ t′) (same-length 20 (h .inputs) (h′ .inputs) (t .inputs) (t′ .inputs) (a .inputs ∙ sym (b .inputs))) (p .inputs) (q .inputs),
+    each-every source back (λ r. Zeros r 10 4) (OutputWitnessTwo source back) (no-output-witness-two source back) (outputRecords h t) (outputRecords h′ t′) (same-length 14 (h .outputs) (h′ .outputs) (t .outputs) (t′ .outputs) (a .outputs ∙ sym (b .outputs))) (p .outputs) (q .outputs),
+    none-two (h .items) (h′ .items) (t .items) (t′ .items) e f (λ r s. (r ! 1 ≡ s ! 1) × ItemBody source back r s),
+  )
+  witnesses-both (some w) e f p q = (
+    witnesses-two source back 0 (inputRecords h t) (inputRecords h′ t′) (w .inputs) (p .inputs) (q .inputs),
+    each-two source back (OutputWitnessShown source) (OutputWitnessShown back) (OutputWitnessTwo source back) (output-witness-two source back) (outputRecords h t) (outputRecords h′ t′) (w .outputs) (p .outputs) (q .outputs),
+    each-two source back (ItemShown source) (ItemShown back) (λ r s. (r ! 1 ≡ s ! 1) × ItemBody source back r s) (λ r s y c d. (c .bodyLength ∙ sym (d .bodyLength), record { body = same-body source back (r ! 0) (s ! 0) (r ! 1) (s ! 1) y (c .body) (d .body) (c .bodyLength) (d .bodyLength) })) (itemRecords h t) (itemRecords h′ t′) (wireItems (w .inputs)) (p .items) (q .items),
+  )
+
+  abbrev both : Each₂ (WitnessTwo source back) (inputRecords h t) (inputRecords h′ t′) × Each₂ (OutputWitnessTwo source back) (outputRecords h t) (outputRecords h′ t′) × Items
+  both = witnesses-both (x .witnesses) (a .items) (b .items) (a .witnessRecords) (b .witnessRecords)
+
+  inputs-two : Each₂ (λ r s. InputAgrees r s × InputBodies source back r s) (inputRecords h t) (inputRecords h′ t′)
+  inputs-two = each-more source back InputAllowed (InputShown source) (InputShown back) (WitnessTwo source back) (λ r s. InputAgrees r s × InputBodies source back r s) (input-two source back) (inputRecords h t) (inputRecords h′ t′) (x .inputs) (g .inputs) (a .inputRecords) (b .inputRecords) (both .0)
+
+  outputs-two : Each₂ (λ r s. OutputAgrees r s × OutputBodies source back r s) (outputRecords h t) (outputRecords h′ t′)
+  outputs-two = each-more source back OutputAllowed (OutputShown source) (OutputShown back) (OutputWitnessTwo source back) (λ r s. OutputAgrees r s × OutputBodies source back r s) (output-two source back) (outputRecords h t) (outputRecords h′ t′) (x .outputs) (g .outputs) (a .outputRecords) (b .outputRecords) (both .1)
+
+  -- Record for record, the numbers agree in all but positions.
+  pub shown-inputs-agree : Each₂ InputAgrees (inputRecords h t) (inputRecords h′ t′)
+  shown-inputs-agree = each-so source back (λ r s. InputAgrees r s × InputBodies source back r s) InputAgrees (λ r s e. e .0) (inputRecords h t) (inputRecords h′ t′) inputs-two
+
+  pub shown-outputs-agree : Each₂ OutputAgrees (outputRecords h t) (outputRecords h′ t′)
+  shown-outputs-agree = each-so source back (λ r s. OutputAgrees r s × OutputBodies source back r s) OutputAgrees (λ r s e. e .0) (outputRecords h t) (outputRecords h′ t′) outputs-two
+
+  pub shown-items-agree : Each₂ (λ r s. r ! 1 ≡ s ! 1) (itemRecords h t) (itemRecords h′ t′)
+  shown-items-agree = each-so source back (λ r s. (r ! 1 ≡ s ! 1) × ItemBody source back r s) (λ r s. r ! 1 ≡ s ! 1) (λ r s e. e .0) (itemRecords h t) (itemRecords h′ t′) (both .2)
+
+  -- And each body shows equal bytes.
+  pub shown-input-bodies : Each₂ (InputBodies source back) (inputRecords h t) (inputRecords h′ t′)
+  shown-input-bodies = each-so source back (λ r s. InputAgrees r s × InputBodies source back r s) (InputBodies source back) (λ r s e. e .1) (inputRecords h t) (inputRecords h′ t′) inputs-two
+
+  pub shown-output-bodies : Each₂ (OutputBodies source back) (outputRecords h t) (outputRecords h′ t′)
+  shown-output-bodies = each-so source back (λ r s. OutputAgrees r s × OutputBodies source back r s) (OutputBodies source back) (λ r s e. e .1) (outputRecords h t) (outputRecords h′ t′) outputs-two
+
+  pub shown-item-bodies : Each₂ (ItemBody source back) (itemRecords h t) (itemRecords h′ t′)
+  shown-item-bodies = each-so source back (λ r s. (r ! 1 ≡ s ! 1) × ItemBody source back r s) (ItemBody source back) (λ r s e. e .1) (itemRecords h t) (itemRecords h′ t′) (both .2)

@@ -1,217 +1,97 @@
--- The tables of a finished reading are the transaction's records, and then zeros.
-use Prim.Native.Nat.{ℕ, zero, suc, _+_, _-_, _*_, _/_, _%_, _^_, _<_, _≤_}
+-- The tables of a reading are the transaction's records, each number kept if its moment has come, and then zeros; of a finished reading, all.
+use Prim.Native.Nat.{ℕ, zero, suc, _+_, _*_, _/_, _%_, _^_}
 use mathlib.Core.Path.{_≡_, refl, sym, _∙_, ap, ap₂, subst}
-use mathlib.Core.Bool.{Bool, true, false, cond, _&&_}
-use mathlib.Core.List.{List, [], _∷_, _++_, append-assoc, append-nil, map}
+use mathlib.Core.Bool.{Bool, true, false, cond}
+use mathlib.Core.List.{List, [], _∷_, _++_, append-assoc, append-nil}
 use mathlib.Core.Option.{Option, none, some}
-use native.Mathlib.Nat.{add-assoc, add-zero, zero-add, mul-add, mul-comm}
+use native.Mathlib.Nat.{add-assoc, mul-add}
 use native.Mathlib.Numerals.{add-one}
 use native.Mathlib.Omega.{arith}
-use lib.Dec.{leb}
-use lib.ListN.{length, set, replicate, length-append, length-replicate, length-set, replicate-append-replicate}
-use lib.Seq.{sets, set-append-left, length-sets}
-use borrow.Author.Tests.{leb-true, leb-false}
-use Rattle.layout.specs.Layout.{Layout, Entry, Table, input, output, item}
-use Rattle.layout.specs.Number.{Bytes}
-use Rattle.layout.specs.Transaction.{Head, Room, entry, inputAt, outputAt, itemAt}
-use Rattle.layout.specs.Outcome.{Tables, Sizes, width, roomOf, zeros, change, lay, laid}
-use Rattle.layout.specs.Contents.{Value, null, explicit, commitment, Issuance, Input, Output, InputWitness, OutputWitness, Witnesses, Contents, compactBytes, flat, bodyBytes, listBytes, valueBytes, tokenBytes, inputBytes, outputBytes, inputWitnessBytes, outputWitnessBytes, flagOf, contentsBytes, Every, InputAllowed, OutputAllowed, MaybeAllowed}
-use Rattle.layout.specs.Records.{itemsOf, sum, itemCount, headOf, Fits, bodyColumns, valuePrefix, high, low, tokenPrefix, issuanceColumns, inputColumns, inputWitnessColumns, outputColumns, outputWitnessColumns, placed, placedWitnesses, stackRecords, witnessItems, witnessesItems, beside, inputsAt, outputsAt, witnessesAt, inputWitnessRecords, outputWitnessRecords, allItems, table, tablesOf}
-use Rattle.layout.proofs.Reading.{by-cases}
-use Rattle.layout.proofs.Codes.{logAll}
-use Rattle.layout.proofs.Parts.{amountNote, amountHalves, keysNote, keysHalves, valueLog, issuedLog, inputLog, outNote, outputLog, itemLog, itemsLog, inputWitnessLog, outputWitnessLog}
-use Rattle.layout.proofs.Whole.{inputsLog, outputsLog, inputWitnessesLog, outputWitnessesLog, tailLog, wholeLog}
+use lib.ListN.{length, replicate, length-append, length-replicate, replicate-append-replicate}
+use Rattle.layout.specs.Layout.{Entry, Table, input, output, item}
+use Rattle.layout.specs.Transaction.{entry}
+use Rattle.layout.specs.Outcome.{Sizes, roomOf, zeros, laid}
+use Rattle.layout.specs.Contents.{Value, null, explicit, commitment, Issuance, Input, Output, InputWitness, OutputWitness, Witnesses, Contents, flat, bodyBytes, listBytes, valueBytes, tokenBytes, inputBytes, outputBytes, inputWitnessBytes, outputWitnessBytes, Every, MaybeAllowed}
+use Rattle.layout.specs.Records.{itemsOf, sum, itemCount, Fits, bodyColumns, valuePrefix, high, low, tokenPrefix, issuanceColumns, inputColumns, inputWitnessColumns, outputColumns, outputWitnessColumns, placed, placedWitnesses, stackRecords, witnessItems, witnessesItems, beside, inputsAt, outputsAt, witnessesAt, inputWitnessRecords, outputWitnessRecords, allItems, table, tablesOf}
+use Rattle.layout.specs.Moments.{counted, bodyMoments, issuanceMoments, inputMoments, inputWitnessMoments, outputMoments, outputWitnessMoments, stackMoments, witnessItemMoments, witnessesItemMoments, allInputWitnessMoments, allOutputWitnessMoments, allItemMoments, momentsOf, kept, keptIn}
+use Rattle.layout.proofs.Parts.{amountNote, amountHalves, keysNote, keysHalves, outNote}
+use Rattle.layout.proofs.Whole.{wholeLog}
+use Rattle.layout.proofs.Timed.{Timed, timed, entered, valueTimed, issuedTimed, inputTimed, outputTimed, inputsTimed, outputsTimed, itemTimed, itemsTimed, inputWitnessTimed, outputWitnessTimed, inputWitnessesTimed, outputWitnessesTimed, tailTimed, wholeTimed, whole-log}
+use Rattle.layout.proofs.Kept.{Alike, alike-placed, alike-same, alike-both, alike-beside, alike-table, keptRows, kept-zero, kept-blanks, kept-all, kept-placed, rows-same, rows-both, rows-beside, rows-long, rows-table}
+use Rattle.layout.proofs.Cells.{same, Cell, cell, cells, Off, off-both, flat-both, bare-flat, bare-beside, nothing-flat, laidIn, laid-tables, laid-both, laid-off, laid-skip, Turns, ByCells, turned, all-turn, Completes, no-record, record-more, completed, filled}
+pub use Rattle.layout.proofs.Cells.{blanks, placed-length, tableOf}
 
--- ---- one table at a time
+-- ---- logs that leave a table alone
 
-abbrev same : Table → Table → Bool
-same input input = true
-same input output = false
-same input item = false
-same output input = false
-same output output = true
-same output item = false
-same item input = false
-same item output = false
-same item item = true
+items-off : (t : Table) → same t item ≡ false → (j at : ℕ) (xs : List (List ℕ)) → Off t (itemsTimed j at xs)
+items-off t n j at [] = tt
+items-off t n j at (x ∷ xs) = (n, items-off t n (suc j) (at + length (bodyBytes x)) xs)
 
-abbrev at-place : Table → Entry → List ℕ → List ℕ
-at-place t e xs = sets xs (width t * e .row + e .column) (e .numbers)
+value-off : (t : Table) (note amount : ℕ → ℕ → Entry) → ((a b : ℕ) → same t (note a b .table) ≡ false) → ((a b : ℕ) → same t (amount a b .table) ≡ false) → (at : ℕ) (v : Value) → Off t (valueTimed note amount at v)
+value-off t note amount n m at null = (n 0 at, tt)
+value-off t note amount n m at (explicit v) = (n 1 at, (m (v / 2 ^ 32) (v % 2 ^ 32), tt))
+value-off t note amount n m at (commitment p part) = (n p at, tt)
 
--- what a log makes of one table
-unfoldable pub laidIn : Table → List Entry → List ℕ → List ℕ
-laidIn t [] xs = xs
-laidIn t (e ∷ es) xs = laidIn t es (cond (same t (e .table)) (at-place t e xs) xs)
+-- where a witness's script count and its pegin count stand
+abbrev atItems : ℕ → InputWitness → ℕ
+atItems at x = at + length (bodyBytes (x .amountProof)) + length (bodyBytes (x .keysProof))
 
-abbrev pub tableOf : Table → Tables → List ℕ
-tableOf input t = t .inputs
-tableOf output t = t .outputs
-tableOf item t = t .items
+abbrev atPegin : ℕ → InputWitness → ℕ
+atPegin at x = atItems at x + length (listBytes bodyBytes (x .scriptItems))
 
-change-in : (t u : Table) (f : Table → List ℕ → List ℕ) (ts : Tables) → tableOf t (change u (f u) ts) ≡ cond (same t u) (f t (tableOf t ts)) (tableOf t ts)
-change-in input input f ts = refl
-change-in input output f ts = refl
-change-in input item f ts = refl
-change-in output input f ts = refl
-change-in output output f ts = refl
-change-in output item f ts = refl
-change-in item input f ts = refl
-change-in item output f ts = refl
-change-in item item f ts = refl
+module _ (i first at : ℕ) (x : InputWitness) where
+  abbrev scriptTimed : List Timed
+  scriptTimed = itemsTimed first (counted (atItems at x) (x .scriptItems)) (x .scriptItems)
 
-laid-in : (t : Table) (es : List Entry) (ts : Tables) → tableOf t (laid es ts) ≡ laidIn t es (tableOf t ts)
-unfolding laid laidIn
-laid-in t [] ts = refl
-laid-in t (e ∷ es) ts = laid-in t es (lay e ts) ∙ ap (laidIn t es) (change-in t (e .table) (λ u xs. sets xs (width u * e .row + e .column) (e .numbers)) ts)
+  abbrev peginTimed : List Timed
+  peginTimed = itemsTimed (first + length (x .scriptItems)) (counted (atPegin at x) (x .peginItems)) (x .peginItems)
 
-pub laid-tables : (es : List Entry) (ts : Tables) → laid es ts ≡ record { inputs = laidIn input es (ts .inputs); outputs = laidIn output es (ts .outputs); items = laidIn item es (ts .items) }
-laid-tables es ts = λ j. record { inputs = laid-in input es ts j; outputs = laid-in output es ts j; items = laid-in item es ts j }
+  -- proofs and script count; pegin count
+  abbrev countedTimed : List Timed
+  countedTimed =
+      let at₁ = at + length (bodyBytes (x .amountProof)) in
+      timed (counted at (x .amountProof)) (entry input i 13 (bodyColumns at (x .amountProof))) ∷
+      timed (counted at₁ (x .keysProof)) (entry input i 15 (bodyColumns at₁ (x .keysProof))) ∷
+      timed (counted (atItems at x) (x .scriptItems)) (entry input i 17 (first ∷ length (x .scriptItems) ∷ [])) ∷
+      []
 
-pub laid-both : (t : Table) (es fs : List Entry) (xs : List ℕ) → laidIn t (es ++ fs) xs ≡ laidIn t fs (laidIn t es xs)
-unfolding laidIn
-laid-both t [] fs xs = refl
-laid-both t (e ∷ es) fs xs = laid-both t es fs (cond (same t (e .table)) (at-place t e xs) xs)
+  abbrev peginCounted : Timed
+  peginCounted = timed (counted (atPegin at x) (x .peginItems)) (entry input i 19 (length (x .peginItems) ∷ []))
 
--- a log of other tables does nothing
-abbrev Off : Table → List Entry → Type 0
-Off t [] = Unit {0}
-Off t (e ∷ es) = (same t (e .table) ≡ false) × Off t es
+module _ (t : Table) (n : same t input ≡ false) where
+  issued-off : (i at : ℕ) (o : Option Issuance) → Off t (issuedTimed i at o)
+  issued-off i at none = tt
+  issued-off i at (some x) =
+      let a = valueTimed (amountNote i) (amountHalves i) (at + 64) (x .amount) in
+      let k = valueTimed (keysNote i) (keysHalves i) (at + 64 + length (valueBytes (x .amount))) (x .keys) in
+      (n, off-both t a k (value-off t (amountNote i) (amountHalves i) (λ a b. n) (λ a b. n) (at + 64) (x .amount)) (value-off t (keysNote i) (keysHalves i) (λ a b. n) (λ a b. n) (at + 64 + length (valueBytes (x .amount))) (x .keys)))
 
-off-both : (t : Table) (es fs : List Entry) → Off t es → Off t fs → Off t (es ++ fs)
-off-both t [] fs g h = h
-off-both t (e ∷ es) fs g h = (g .0, off-both t es fs (g .1) h)
+  inputs-off : (xs : List Input) (i at : ℕ) → Off t (inputsTimed i at xs)
+  inputs-off [] i at = tt
+  inputs-off (x ∷ xs) i at = off-both t (inputTimed i at x) (inputsTimed (suc i) (at + length (inputBytes x)) xs) (n, (n, (n, (n, issued-off i (at + 36 + length (bodyBytes (x .script)) + 4) (x .issuance))))) (inputs-off xs (suc i) (at + length (inputBytes x)))
 
-laid-off : (t : Table) (es : List Entry) → Off t es → (xs : List ℕ) → laidIn t es xs ≡ xs
-unfolding laidIn
-laid-off t [] g xs = refl
-laid-off t (e ∷ es) g xs = ap (λ (b : Bool). laidIn t es (cond b (at-place t e xs) xs)) (g .0) ∙ laid-off t es (g .1) xs
+  witnesses-off : same t item ≡ false → (ws : List InputWitness) (i first at : ℕ) → Off t (inputWitnessesTimed i first at ws)
+  witnesses-off m [] i first at = tt
+  witnesses-off m (w ∷ ws) i first at =
+      off-both t (inputWitnessTimed i first at w) (inputWitnessesTimed (suc i) (first + length (w .scriptItems) + length (w .peginItems)) (at + length (inputWitnessBytes w)) ws)
+      (n, (n, (n, off-both t (scriptTimed i first at w) (peginCounted i first at w ∷ peginTimed i first at w) (items-off t m first _ (w .scriptItems)) (n, items-off t m (first + length (w .scriptItems)) _ (w .peginItems)))))
+      (witnesses-off m ws (suc i) (first + length (w .scriptItems) + length (w .peginItems)) (at + length (inputWitnessBytes w)))
 
--- ---- one record at a time
+module _ (t : Table) (n : same t output ≡ false) where
+  outputs-off : (xs : List Output) (i at : ℕ) → Off t (outputsTimed i at xs)
+  outputs-off [] i at = tt
+  outputs-off (x ∷ xs) i at =
+      let at₁ = at + length (tokenBytes (x .asset)) in
+      let at₂ = at₁ + length (valueBytes (x .value)) in
+      let at₃ = at₂ + length (tokenBytes (x .nonce)) in
+      let p = counted at₃ (x .script) in
+      off-both t (outputTimed i at x) (outputsTimed (suc i) (at + length (outputBytes x)) xs)
+      (n, off-both t (valueTimed (outNote i 2) (outNote i 4) at₁ (x .value)) (timed (at₂ + 1) (outNote i 6 (tokenPrefix (x .nonce)) at₂) ∷ timed p (outNote i 8 p (length (x .script))) ∷ []) (value-off t (outNote i 2) (outNote i 4) (λ a b. n) (λ a b. n) at₁ (x .value)) (n, (n, tt)))
+      (outputs-off xs (suc i) (at + length (outputBytes x)))
 
-set-right : (xs ys : List ℕ) (n a : ℕ) → set (xs ++ ys) (length xs + n) a ≡ xs ++ set ys n a
-set-right [] ys n a = ap (λ (m : ℕ). set ys m a) (zero-add n)
-set-right (x ∷ xs) ys n a =
-    let next : suc (length xs) + n ≡ suc (length xs + n) = omega arith in
-    ap (λ (m : ℕ). set (x ∷ (xs ++ ys)) m a) next ∙ ap (λ (l : List ℕ). x ∷ l) (set-right xs ys n a)
-
-sets-right : (xs ys : List ℕ) (n : ℕ) (ns : List ℕ) → sets (xs ++ ys) (length xs + n) ns ≡ xs ++ sets ys n ns
-sets-right xs ys n [] = refl
-sets-right xs ys n (a ∷ ns) =
-    let next : suc (length xs + n) ≡ length xs + suc n = omega arith in
-    ap₂ (λ (l : List ℕ) (m : ℕ). sets l m ns) (set-right xs ys n a) next ∙ sets-right xs (set ys n a) (suc n) ns
-
-sets-left : (ns xs ys : List ℕ) (n : ℕ) → n + length ns ≤ length xs → sets (xs ++ ys) n ns ≡ sets xs n ns ++ ys
-sets-left [] xs ys n h = refl
-sets-left (a ∷ ns) xs ys n h =
-    ap (λ (l : List ℕ). sets l (suc n) ns) (set-append-left xs ys n a (omega arith))
-    ∙ sets-left ns (set xs n a) ys (suc n) (omega (arith, length-set xs n a))
-
--- a column and its numbers
-pub record Cell : Type 0 where
-  pub column : ℕ
-  pub numbers : List ℕ
-
-abbrev cell : ℕ → List ℕ → Cell
-cell c ns = record { column = c; numbers = ns }
-
-abbrev cells : Table → ℕ → List Cell → List Entry
-cells t i [] = []
-cells t i (c ∷ cs) = entry t i (c .column) (c .numbers) ∷ cells t i cs
-
-abbrev fills : List Cell → List ℕ → List ℕ
-fills [] row = row
-fills (c ∷ cs) row = fills cs (sets row (c .column) (c .numbers))
-
-abbrev fit : ℕ → List Cell → Bool
-fit w [] = true
-fit w (c ∷ cs) = cond (leb (c .column + length (c .numbers)) w) (fit w cs) false
-
-same-self : (t : Table) → same t t ≡ true
-same-self input = refl
-same-self output = refl
-same-self item = refl
-
-cond-both : (b c : Bool) → cond b c false ≡ true → (b ≡ true) × (c ≡ true)
-cond-both true c e = (refl, e)
-cond-both false c e = absurd (let z : _≡_ {A = ℕ} 0 1 = ap (λ (t : Bool). cond t 1 0) e in omega arith)
-
--- cells of one record change that record alone
-laid-row : (t : Table) (i w : ℕ) (cs : List Cell) (front row behind : List ℕ) → length front ≡ width t * i → length row ≡ w → fit w cs ≡ true → laidIn t (cells t i cs) (front ++ (row ++ behind)) ≡ front ++ (fills cs row ++ behind)
-unfolding laidIn
-laid-row t i w [] front row behind e l f = refl
-laid-row t i w (c ∷ cs) front row behind e l f =
-    let ok = cond-both (leb (c .column + length (c .numbers)) w) (fit w cs) f in
-    let there : c .column + length (c .numbers) ≤ length row = omega (arith, leb-true (c .column + length (c .numbers)) w (ok .0)) in
-    let new = sets row (c .column) (c .numbers) in
-    let placed : sets (front ++ (row ++ behind)) (width t * i + c .column) (c .numbers) ≡ front ++ (new ++ behind) =
-    ap (λ (n : ℕ). sets (front ++ (row ++ behind)) (n + c .column) (c .numbers)) (sym e)
-    ∙ sets-right front (row ++ behind) (c .column) (c .numbers)
-    ∙ ap (λ (l : List ℕ). front ++ l) (sets-left (c .numbers) row behind (c .column) there) in
-    ap (λ (b : Bool). laidIn t (cells t i cs) (cond b (sets (front ++ (row ++ behind)) (width t * i + c .column) (c .numbers)) (front ++ (row ++ behind)))) (same-self t)
-    ∙ ap (laidIn t (cells t i cs)) placed
-    ∙ laid-row t i w cs front new behind e (length-sets row (c .column) (c .numbers) ∙ l) (ok .1)
-
--- A log turns one record into another and leaves the rest.
-abbrev Turns : Table → ℕ → List Entry → List ℕ → List ℕ → Type 0
-Turns t i es old new = (front behind : List ℕ) → length front ≡ width t * i → laidIn t es (front ++ (old ++ behind)) ≡ front ++ (new ++ behind)
-
-pub record ByCells (t : Table) (i w : ℕ) (es : List Entry) (cs : List Cell) (old new : List ℕ) : Type 0 where
-  pub log : es ≡ cells t i cs
-  pub filled : fills cs old ≡ new
-  pub fits : fit w cs ≡ true
-  pub long : length old ≡ w
-
-turned : {t : Table} {i w : ℕ} {es : List Entry} {cs : List Cell} {old new : List ℕ} → ByCells t i w es cs old new → Turns t i es old new
-turned {t = t} {i = i} {w = w} {es = es} {cs = cs} {old = old} b front behind e =
-    ap (λ (l : List Entry). laidIn t l (front ++ (old ++ behind))) (b .log)
-    ∙ laid-row t i w cs front old behind e (b .long) (b .fits)
-    ∙ ap (λ (r : List ℕ). front ++ (r ++ behind)) (b .filled)
-
--- ---- inputs
-
-abbrev valueCells : ℕ → Value → List Cell
-valueCells c null = cell c (0 ∷ []) ∷ []
-valueCells c (explicit v) = cell c (1 ∷ []) ∷ cell (c + 1) (v / 2 ^ 32 ∷ v % 2 ^ 32 ∷ []) ∷ []
-valueCells c (commitment p part) = cell c (p ∷ []) ∷ []
-
-module _ (i at vout flags p n sequence at′ : ℕ) where
-  abbrev firstCells : List Cell → List Cell
-  firstCells cs = cell 0 (at ∷ []) ∷ cell 1 (vout ∷ flags ∷ []) ∷ cell 3 (p ∷ n ∷ []) ∷ cell 5 (sequence ∷ []) ∷ cs
-
-  abbrev firstLog : List Entry → List Entry
-  firstLog es = entry input i 0 (at ∷ []) ∷ entry input i 1 (vout ∷ flags ∷ []) ∷ entry input i 3 (p ∷ n ∷ []) ∷ entry input i 5 (sequence ∷ []) ∷ es
-
-  abbrev firstColumns : List ℕ → List ℕ
-  firstColumns ns = at ∷ vout ∷ flags ∷ p ∷ n ∷ sequence ∷ (ns ++ replicate 7 0)
-
-  plain-cells : ByCells input i 20 (firstLog []) (firstCells []) (replicate 20 0) (firstColumns (replicate 7 0))
-  plain-cells = record { log = refl; filled = refl; fits = refl; long = refl }
-
-  abbrev IssuedCells : Value → Value → Type 0
-  IssuedCells a k =
-      ByCells input i 20 (firstLog (entry input i 6 (at′ ∷ []) ∷ (valueLog (amountNote i) (amountHalves i) 0 a ++ valueLog (keysNote i) (keysHalves i) 0 k))) (firstCells (cell 6 (at′ ∷ []) ∷ (valueCells 7 a ++ valueCells 10 k))) (replicate 20 0) (firstColumns (at′ ∷ valuePrefix a ∷ high a ∷ low a ∷ valuePrefix k ∷ high k ∷ low k ∷ []))
-
-  issued-cells : (a k : Value) → IssuedCells a k
-  issued-cells null null = record { log = refl; filled = refl; fits = refl; long = refl }
-  issued-cells null (explicit k) = record { log = refl; filled = refl; fits = refl; long = refl }
-  issued-cells null (commitment q part) = record { log = refl; filled = refl; fits = refl; long = refl }
-  issued-cells (explicit a) null = record { log = refl; filled = refl; fits = refl; long = refl }
-  issued-cells (explicit a) (explicit k) = record { log = refl; filled = refl; fits = refl; long = refl }
-  issued-cells (explicit a) (commitment q part) = record { log = refl; filled = refl; fits = refl; long = refl }
-  issued-cells (commitment b part) null = record { log = refl; filled = refl; fits = refl; long = refl }
-  issued-cells (commitment b part) (explicit k) = record { log = refl; filled = refl; fits = refl; long = refl }
-  issued-cells (commitment b part) (commitment q part′) = record { log = refl; filled = refl; fits = refl; long = refl }
-
-  issued-turns : (o : Option Issuance) → Turns input i (firstLog (issuedLog i at′ o)) (replicate 20 0) (firstColumns (issuanceColumns at′ o))
-  issued-turns none = turned plain-cells
-  issued-turns (some x) = turned (issued-cells (x .amount) (x .keys))
-
--- an input record without its witness
-abbrev bareInput : ℕ → Input → List ℕ
-bareInput at x = inputColumns at x ++ replicate 7 0
-
-input-turns : (i at : ℕ) (x : Input) → Turns input i (inputLog i at x) (replicate 20 0) (bareInput at x)
-input-turns i at x = issued-turns i at (x .vout) (x .flags) (at + 36 + length (compactBytes (length (x .script)))) (length (x .script)) (x .sequence) (at + 36 + length (bodyBytes (x .script)) + 4) (x .issuance)
+  output-witnesses-off : (ws : List OutputWitness) (i at : ℕ) → Off t (outputWitnessesTimed i at ws)
+  output-witnesses-off [] i at = tt
+  output-witnesses-off (w ∷ ws) i at = (n, (n, output-witnesses-off ws (suc i) (at + length (outputWitnessBytes w))))
 
 issuance-long : (at : ℕ) (o : Option Issuance) → length (issuanceColumns at o) ≡ 7
 issuance-long at none = refl
@@ -220,347 +100,383 @@ issuance-long at (some x) = refl
 pub input-long : (at : ℕ) (x : Input) → length (inputColumns at x) ≡ 13
 input-long at x = ap (λ (n : ℕ). suc (suc (suc (suc (suc (suc n)))))) (issuance-long (at + 36 + length (bodyBytes (x .script)) + 4) (x .issuance))
 
--- ---- outputs
+-- ---- records and their moments have one shape
 
-abbrev bareOutput : ℕ → Output → List ℕ
-bareOutput at x = outputColumns at x ++ replicate 4 0
+issuance-alike : (at : ℕ) (o : Option Issuance) → length (issuanceMoments at o) ≡ length (issuanceColumns at o)
+issuance-alike at none = refl
+issuance-alike at (some x) = refl
 
-abbrev outputValueCells : ℕ → Value → List Cell
-outputValueCells at null = cell 2 (0 ∷ at ∷ []) ∷ []
-outputValueCells at (explicit v) = cell 2 (1 ∷ at ∷ []) ∷ cell 4 (v / 2 ^ 32 ∷ v % 2 ^ 32 ∷ []) ∷ []
-outputValueCells at (commitment p part) = cell 2 (p ∷ at ∷ []) ∷ []
+input-alike : (at : ℕ) (x : Input) → length (inputMoments at x) ≡ length (inputColumns at x)
+input-alike at x = ap (λ (n : ℕ). suc (suc (suc (suc (suc (suc n)))))) (issuance-alike (at + 36 + length (bodyBytes (x .script)) + 4) (x .issuance))
 
-module _ (i a at b at₁ at₂ p n : ℕ) where
-  output-cells : (v : Value) → ByCells output i 14 (outNote i 0 a at ∷ (valueLog (outNote i 2) (outNote i 4) at₁ v ++ (outNote i 6 b at₂ ∷ outNote i 8 p n ∷ []))) (cell 0 (a ∷ at ∷ []) ∷ (outputValueCells at₁ v ++ (cell 6 (b ∷ at₂ ∷ []) ∷ cell 8 (p ∷ n ∷ []) ∷ []))) (replicate 14 0) (a ∷ at ∷ valuePrefix v ∷ at₁ ∷ high v ∷ low v ∷ b ∷ at₂ ∷ p ∷ n ∷ 0 ∷ 0 ∷ 0 ∷ 0 ∷ [])
-  output-cells null = record { log = refl; filled = refl; fits = refl; long = refl }
-  output-cells (explicit v) = record { log = refl; filled = refl; fits = refl; long = refl }
-  output-cells (commitment q part) = record { log = refl; filled = refl; fits = refl; long = refl }
+witnesses-alike : (first at : ℕ) (ws : List InputWitness) → Alike (placed inputWitnessBytes inputWitnessMoments at ws) (placedWitnesses first at ws)
+unfolding placed placedWitnesses
+witnesses-alike first at [] = tt
+witnesses-alike first at (w ∷ ws) = (refl, witnesses-alike (first + itemsOf w) (at + length (inputWitnessBytes w)) ws)
 
-output-turns : (i at : ℕ) (x : Output) → Turns output i (outputLog i at x) (replicate 14 0) (bareOutput at x)
-output-turns i at x =
-    let at₁ = at + length (tokenBytes (x .asset)) in
-    let at₂ = at₁ + length (valueBytes (x .value)) in
-    let at₃ = at₂ + length (tokenBytes (x .nonce)) in
-    turned (output-cells i (tokenPrefix (x .asset)) at (tokenPrefix (x .nonce)) at₁ at₂ (at₃ + length (compactBytes (length (x .script)))) (length (x .script)) (x .value))
+input-witness-alike : (at n : ℕ) (o : Option Witnesses) → Alike (allInputWitnessMoments at n o) (inputWitnessRecords at n o)
+input-witness-alike at n none = alike-same n 7 at
+input-witness-alike at n (some w) = witnesses-alike 0 at (w .inputs)
 
--- ---- of each, one behind the other
+output-witness-alike : (at n : ℕ) (o : Option Witnesses) → Alike (allOutputWitnessMoments at n o) (outputWitnessRecords at n o)
+output-witness-alike at n none = alike-same n 4 at
+output-witness-alike at n (some w) = alike-placed outputWitnessBytes outputWitnessMoments outputWitnessColumns (λ at x. refl) _ (w .outputs)
 
--- numbers that are 0, in records
-abbrev pub blanks : ℕ → List ℕ
-blanks n = replicate n 0
+items-alike : (at : ℕ) (x : InputWitness) → Alike (witnessItemMoments at x) (witnessItems at x)
+items-alike at x =
+    alike-both (stackMoments (atItems at x) (x .scriptItems)) (stackRecords (atItems at x) (x .scriptItems)) (stackMoments (atPegin at x) (x .peginItems)) (stackRecords (atPegin at x) (x .peginItems))
+    (alike-placed bodyBytes bodyMoments bodyColumns (λ at x. refl) _ (x .scriptItems)) (alike-placed bodyBytes bodyMoments bodyColumns (λ at x. refl) _ (x .peginItems))
 
-blank : (w n : ℕ) → blanks (w * suc n) ≡ blanks w ++ blanks (w * n)
-blank w n =
-    let longer : w * suc n ≡ w + w * n = omega (arith, ap (λ (m : ℕ). w * m) (sym (add-one n)), mul-add w n 1) in
-    ap blanks longer ∙ sym (replicate-append-replicate w (w * n) 0)
+witnesses-items-alike : (at : ℕ) (ws : List InputWitness) → Alike (witnessesItemMoments at ws) (witnessesItems at ws)
+unfolding witnessesItemMoments witnessesItems
+witnesses-items-alike at [] = tt
+witnesses-items-alike at (w ∷ ws) = alike-both (witnessItemMoments at w) (witnessItems at w) (witnessesItemMoments (at + length (inputWitnessBytes w)) ws) (witnessesItems (at + length (inputWitnessBytes w)) ws) (items-alike at w) (witnesses-items-alike (at + length (inputWitnessBytes w)) ws)
 
-module _ {X : Type 0} (t : Table) (part : ℕ → ℕ → (ℕ → Layout Head) → Layout Head) (Good : X → Type 0) (bytes : X → List ℕ) (log : ℕ → ℕ → X → List Entry) (columns : ℕ → X → List ℕ) (turns : (i at : ℕ) (x : X) → Turns t i (log i at x) (replicate (width t) 0) (columns at x)) (long : (at : ℕ) (x : X) → length (columns at x) ≡ width t) where
-  all-turn : (xs : List X) (i at : ℕ) (front behind : List ℕ) → length front ≡ width t * i → laidIn t (logAll part Good bytes log i at xs) (front ++ (replicate (width t * length xs) 0 ++ behind)) ≡ front ++ (flat (λ r. r) (placed bytes columns at xs) ++ behind)
-  unfolding laidIn placed flat
-  all-turn [] i at front behind e = let nothing : width t * 0 ≡ 0 = omega arith in ap (λ (n : ℕ). front ++ (replicate n 0 ++ behind)) nothing
-  all-turn (x ∷ xs) i at front behind e =
-      let w = width t in
-      let row = columns at x in
-      let rest = blanks (w * length xs) in
-      let at′ = at + length (bytes x) in
-      let after-it : length (front ++ row) ≡ w * suc i = omega (arith, length-append front row, long at x, ap (λ (m : ℕ). w * m) (sym (add-one i)), mul-add w i 1) in
-      laid-both t (log i at x) (logAll part Good bytes log (suc i) at′ xs) (front ++ (replicate (w * suc (length xs)) 0 ++ behind))
-      ∙ ap (λ (l : List ℕ). laidIn t (logAll part Good bytes log (suc i) at′ xs) (laidIn t (log i at x) (front ++ l))) (ap (λ (l : List ℕ). l ++ behind) (blank w (length xs)) ∙ append-assoc (replicate w 0) rest behind)
-      ∙ ap (laidIn t (logAll part Good bytes log (suc i) at′ xs)) (turns i at x front (rest ++ behind) e ∙ sym (append-assoc front row (rest ++ behind)))
-      ∙ all-turn xs (suc i) at′ (front ++ row) behind after-it
-      ∙ append-assoc front row (flat (λ r. r) (placed bytes columns at′ xs) ++ behind)
-      ∙ ap (λ (l : List ℕ). front ++ l) (sym (append-assoc row (flat (λ r. r) (placed bytes columns at′ xs)) behind))
+all-items-alike : (at : ℕ) (o : Option Witnesses) → Alike (allItemMoments at o) (allItems at o)
+all-items-alike at none = tt
+all-items-alike at (some w) = witnesses-items-alike at (w .inputs)
 
--- ---- witnesses, beside the records that are there
+-- ---- the rows of what is entered by now
 
--- cells behind the first columns
-abbrev behindOf : ℕ → List Cell → List Cell
-behindOf k [] = []
-behindOf k (c ∷ cs) = cell (k + c .column) (c .numbers) ∷ behindOf k cs
+module _ (now : ℕ → Bool) where
+  -- ---- inputs
 
-fills-right : (cs : List Cell) (xs ys : List ℕ) (k : ℕ) → length xs ≡ k → fills (behindOf k cs) (xs ++ ys) ≡ xs ++ fills cs ys
-fills-right [] xs ys k e = refl
-fills-right (c ∷ cs) xs ys k e =
-    ap (λ (n : ℕ). fills (behindOf k cs) (sets (xs ++ ys) (n + c .column) (c .numbers))) (sym e)
-    ∙ ap (fills (behindOf k cs)) (sets-right xs ys (c .column) (c .numbers))
-    ∙ fills-right cs xs (sets ys (c .column) (c .numbers)) k e
+  abbrev if : ℕ → ℕ → ℕ
+  if m n = cond (now m) n 0
 
--- entries of another table in the middle do nothing
-laid-skip : (t : Table) (es fs gs : List Entry) → Off t fs → (xs : List ℕ) → laidIn t (es ++ (fs ++ gs)) xs ≡ laidIn t (es ++ gs) xs
-laid-skip t es fs gs o xs =
-    laid-both t es (fs ++ gs) xs
-    ∙ laid-both t fs gs (laidIn t es xs)
-    ∙ ap (laidIn t gs) (laid-off t fs o (laidIn t es xs))
-    ∙ sym (laid-both t es gs xs)
+  -- high and low of a value that starts there
+  abbrev highIf : ℕ → Value → ℕ
+  highIf at null = 0
+  highIf at (explicit v) = if (at + 9) (v / 2 ^ 32)
+  highIf at (commitment p part) = 0
 
-items-off : (t : Table) → same t item ≡ false → (j at : ℕ) (xs : List (List ℕ)) → Off t (itemsLog j at xs)
-items-off t n j at [] = tt
-items-off t n j at (x ∷ xs) = (n, items-off t n (suc j) (at + length (bodyBytes x)) xs)
+  abbrev lowIf : ℕ → Value → ℕ
+  lowIf at null = 0
+  lowIf at (explicit v) = if (at + 9) (v % 2 ^ 32)
+  lowIf at (commitment p part) = 0
 
-module _ (i first at : ℕ) (x : InputWitness) where
-  abbrev witnessCells : List Cell
-  witnessCells =
-      cell 0 (bodyColumns at (x .amountProof)) ∷
-      cell 2 (bodyColumns (at + length (bodyBytes (x .amountProof))) (x .keysProof)) ∷
-      cell 4 (first ∷ length (x .scriptItems) ∷ []) ∷
-      cell 6 (length (x .peginItems) ∷ []) ∷
-      []
+  high-if : (at : ℕ) (v : Value) → highIf at v ≡ if (at + 9) (high v)
+  high-if at null = sym (kept-zero (now (at + 9)))
+  high-if at (explicit v) = refl
+  high-if at (commitment p part) = sym (kept-zero (now (at + 9)))
 
-  abbrev atItems : ℕ
-  atItems = at + length (bodyBytes (x .amountProof)) + length (bodyBytes (x .keysProof))
+  low-if : (at : ℕ) (v : Value) → lowIf at v ≡ if (at + 9) (low v)
+  low-if at null = sym (kept-zero (now (at + 9)))
+  low-if at (explicit v) = refl
+  low-if at (commitment p part) = sym (kept-zero (now (at + 9)))
 
-  abbrev scriptLog : List Entry
-  scriptLog = itemsLog first (atItems + length (compactBytes (length (x .scriptItems)))) (x .scriptItems)
+  abbrev valueCells : ℕ → ℕ → Value → List Cell
+  valueCells at c null = cell (at + 1) c (0 ∷ []) ∷ []
+  valueCells at c (explicit v) = cell (at + 1) c (1 ∷ []) ∷ cell (at + 9) (c + 1) (v / 2 ^ 32 ∷ v % 2 ^ 32 ∷ []) ∷ []
+  valueCells at c (commitment p part) = cell (at + 1) c (p ∷ []) ∷ []
 
-  abbrev peginLog : List Entry
-  peginLog = itemsLog (first + length (x .scriptItems)) (atItems + length (listBytes bodyBytes (x .scriptItems)) + length (compactBytes (length (x .peginItems)))) (x .peginItems)
+  -- an input record without its witness
+  abbrev keptInput : ℕ → Input → List ℕ
+  keptInput at x = kept now (inputMoments at x) (inputColumns at x)
 
-  -- for the input table the items are as if they weren't there
-  witness-laid : (xs : List ℕ) → laidIn input (inputWitnessLog i first at x) xs ≡ laidIn input (cells input i (behindOf 13 witnessCells)) xs
-  witness-laid xs =
-      let es = entry input i 13 (bodyColumns at (x .amountProof)) ∷ entry input i 15 (bodyColumns (at + length (bodyBytes (x .amountProof))) (x .keysProof)) ∷ entry input i 17 (first ∷ length (x .scriptItems) ∷ []) ∷ [] in
-      let e = entry input i 19 (length (x .peginItems) ∷ []) in
-      laid-skip input es scriptLog (e ∷ peginLog) (items-off input refl first _ (x .scriptItems)) xs
-      ∙ ap (λ (l : List Entry). laidIn input (es ++ (e ∷ l)) xs) (sym (append-nil peginLog))
-      ∙ laid-skip input (es ++ (e ∷ [])) peginLog [] (items-off input refl (first + length (x .scriptItems)) _ (x .peginItems)) xs
+  module _ (i at vout flags p n sequence at′ at″ : ℕ) where
+    abbrev firstCells : List Cell → List Cell
+    firstCells cs = cell (at + 32) 0 (at ∷ []) ∷ cell (at + 36) 1 (vout ∷ flags ∷ []) ∷ cell p 3 (p ∷ n ∷ []) ∷ cell at′ 5 (sequence ∷ []) ∷ cs
 
-  witness-turns : (row : List ℕ) → length row ≡ 13 → Turns input i (inputWitnessLog i first at x) (row ++ blanks 7) (row ++ inputWitnessColumns first at x)
-  witness-turns row l front behind e =
-      witness-laid (front ++ ((row ++ blanks 7) ++ behind))
-      ∙ laid-row input i 20 (behindOf 13 witnessCells) front (row ++ blanks 7) behind e (length-append row (blanks 7) ∙ ap (λ (n : ℕ). n + 7) l) refl
-      ∙ ap (λ (r : List ℕ). front ++ (r ++ behind)) (fills-right witnessCells row (blanks 7) 13 l)
+    abbrev firstTimed : List Timed → List Timed
+    firstTimed es = timed (at + 32) (entry input i 0 (at ∷ [])) ∷ timed (at + 36) (entry input i 1 (vout ∷ flags ∷ [])) ∷ timed p (entry input i 3 (p ∷ n ∷ [])) ∷ timed at′ (entry input i 5 (sequence ∷ [])) ∷ es
 
-output-witness-turns : (i at : ℕ) (x : OutputWitness) (row : List ℕ) → length row ≡ 10 → Turns output i (outputWitnessLog i at x) (row ++ blanks 4) (row ++ outputWitnessColumns at x)
-output-witness-turns i at x row l front behind e =
-    let cs = cell 0 (bodyColumns at (x .surjectionProof)) ∷ cell 2 (bodyColumns (at + length (bodyBytes (x .surjectionProof))) (x .rangeProof)) ∷ [] in
-    laid-row output i 14 (behindOf 10 cs) front (row ++ blanks 4) behind e (length-append row (blanks 4) ∙ ap (λ (n : ℕ). n + 4) l) refl
-    ∙ ap (λ (r : List ℕ). front ++ (r ++ behind)) (fills-right cs row (blanks 4) 10 l)
+    abbrev firstColumns : List ℕ → List ℕ
+    firstColumns ns = if (at + 32) at ∷ if (at + 36) vout ∷ if (at + 36) flags ∷ if p p ∷ if p n ∷ if at′ sequence ∷ (ns ++ blanks 7)
 
--- records with room for b numbers more, a log, and those numbers
-data Completes (t : Table) (b : ℕ) : ℕ → List (List ℕ) → List Entry → List (List ℕ) → Type 0 where
-  no-record : {i : ℕ} → Completes t b i [] [] []
-  record-more : {i : ℕ} {row new : List ℕ} {rows news : List (List ℕ)} {fs : List Entry} (es : List Entry) → length row + b ≡ width t → length new ≡ b → Turns t i es (row ++ blanks b) (row ++ new) → Completes t b (suc i) rows fs news → Completes t b i (row ∷ rows) (es ++ fs) (new ∷ news)
+    plain-cells : ByCells now input i 0 20 (firstTimed []) (firstCells []) (blanks 20) (firstColumns (blanks 7))
+    plain-cells = record { log = refl; filled = refl; fits = refl; long = refl }
 
-completed : {t : Table} {b i : ℕ} {rows news : List (List ℕ)} {es : List Entry} → Completes t b i rows es news → (front behind : List ℕ) → length front ≡ width t * i → laidIn t es (front ++ (flat (λ r. r ++ blanks b) rows ++ behind)) ≡ front ++ (flat (λ r. r) (beside rows news) ++ behind)
-unfolding laidIn flat beside
-completed no-record front behind e = refl
-completed {t = t} {b = b} (record-more {i = i} {row = row} {new = new} {rows = rows} {news = news} {fs = fs} es l m turns c) front behind e =
-    let rest = flat (λ r. r ++ blanks b) rows in
-    let end = flat (λ r. r) (beside rows news) in
-    let after-it : length (front ++ (row ++ new)) ≡ width t * suc i = omega (arith, length-append front (row ++ new), length-append row new, ap (λ (n : ℕ). width t * n) (sym (add-one i)), mul-add (width t) i 1) in
-    laid-both t es fs (front ++ (((row ++ blanks b) ++ rest) ++ behind))
-    ∙ ap (λ (l : List ℕ). laidIn t fs (laidIn t es (front ++ l))) (append-assoc (row ++ blanks b) rest behind)
-    ∙ ap (laidIn t fs) (turns front (rest ++ behind) e ∙ sym (append-assoc front (row ++ new) (rest ++ behind)))
-    ∙ completed c (front ++ (row ++ new)) behind after-it
-    ∙ append-assoc front (row ++ new) (end ++ behind)
-    ∙ ap (λ (l : List ℕ). front ++ l) (sym (append-assoc (row ++ new) end behind))
+    abbrev IssuedCells : Value → Value → Type 0
+    IssuedCells a k =
+        ByCells now input i 0 20
+        (firstTimed (timed (at′ + 32) (entry input i 6 (at′ ∷ [])) ∷ (valueTimed (amountNote i) (amountHalves i) (at′ + 64) a ++ valueTimed (keysNote i) (keysHalves i) at″ k)))
+        (firstCells (cell (at′ + 32) 6 (at′ ∷ []) ∷ (valueCells (at′ + 64) 7 a ++ valueCells at″ 10 k)))
+        (blanks 20)
+        (firstColumns (if (at′ + 32) at′ ∷ if (at′ + 64 + 1) (valuePrefix a) ∷ highIf (at′ + 64) a ∷ lowIf (at′ + 64) a ∷ if (at″ + 1) (valuePrefix k) ∷ highIf at″ k ∷ lowIf at″ k ∷ []))
 
-module _ (room : ℕ) where
-  inputs-complete : (xs : List Input) (ws : List InputWitness) (i at first at′ : ℕ) → length ws ≡ length xs → Completes input 7 i (placed inputBytes inputColumns at xs) (inputWitnessesLog room i first at′ ws) (placedWitnesses first at′ ws)
-  unfolding placed placedWitnesses
+    issued-cells : (a k : Value) → IssuedCells a k
+    issued-cells null null = record { log = refl; filled = refl; fits = refl; long = refl }
+    issued-cells null (explicit k) = record { log = refl; filled = refl; fits = refl; long = refl }
+    issued-cells null (commitment q part) = record { log = refl; filled = refl; fits = refl; long = refl }
+    issued-cells (explicit a) null = record { log = refl; filled = refl; fits = refl; long = refl }
+    issued-cells (explicit a) (explicit k) = record { log = refl; filled = refl; fits = refl; long = refl }
+    issued-cells (explicit a) (commitment q part) = record { log = refl; filled = refl; fits = refl; long = refl }
+    issued-cells (commitment b part) null = record { log = refl; filled = refl; fits = refl; long = refl }
+    issued-cells (commitment b part) (explicit k) = record { log = refl; filled = refl; fits = refl; long = refl }
+    issued-cells (commitment b part) (commitment q part′) = record { log = refl; filled = refl; fits = refl; long = refl }
+
+  module _ (i at vout flags p n sequence at′ : ℕ) where
+    -- a null field's numbers are 0 before and after
+    issued-turns : (o : Option Issuance) → Turns now input i 0 (firstTimed i at vout flags p n sequence at′ 0 (issuedTimed i at′ o)) (blanks 20) (firstColumns i at vout flags p n sequence at′ 0 (kept now (issuanceMoments at′ o) (issuanceColumns at′ o)))
+    unfolding kept
+    issued-turns none front behind e =
+        turned now (plain-cells i at vout flags p n sequence at′ 0) front behind e
+        ∙ ap (λ (ns : List ℕ). front ++ (firstColumns i at vout flags p n sequence at′ 0 ns ++ behind)) (sym (kept-blanks now at′ 7))
+    issued-turns (some x) front behind e =
+        let at″ = at′ + 64 + length (valueBytes (x .amount)) in
+        let a = x .amount in
+        let k = x .keys in
+        turned now (issued-cells i at vout flags p n sequence at′ at″ a k) front behind e
+        ∙ λ j. front ++ (firstColumns i at vout flags p n sequence at′ 0 (if (at′ + 32) at′ ∷ if (at′ + 64 + 1) (valuePrefix a) ∷ high-if (at′ + 64) a j ∷ low-if (at′ + 64) a j ∷ if (at″ + 1) (valuePrefix k) ∷ high-if at″ k j ∷ low-if at″ k j ∷ []) ++ behind)
+
+  input-turns : (i at : ℕ) (x : Input) → Turns now input i 0 (inputTimed i at x) (blanks 20) (keptInput at x ++ blanks 7)
+  unfolding kept
+  input-turns i at x = issued-turns i at (x .vout) (x .flags) (counted (at + 36) (x .script)) (length (x .script)) (x .sequence) (at + 36 + length (bodyBytes (x .script)) + 4) (x .issuance)
+
+  kept-issuance-long : (at : ℕ) (o : Option Issuance) → length (kept now (issuanceMoments at o) (issuanceColumns at o)) ≡ 7
+  unfolding kept
+  kept-issuance-long at none = refl
+  kept-issuance-long at (some x) = refl
+
+  kept-input-long : (at : ℕ) (x : Input) → length (keptInput at x) ≡ 13
+  unfolding kept
+  kept-input-long at x = ap (λ (n : ℕ). suc (suc (suc (suc (suc (suc n)))))) (kept-issuance-long (at + 36 + length (bodyBytes (x .script)) + 4) (x .issuance))
+
+  -- ---- outputs
+
+  abbrev keptOutput : ℕ → Output → List ℕ
+  keptOutput at x = kept now (outputMoments at x) (outputColumns at x)
+
+  abbrev outputValueCells : ℕ → Value → List Cell
+  outputValueCells at null = cell (at + 1) 2 (0 ∷ at ∷ []) ∷ []
+  outputValueCells at (explicit v) = cell (at + 1) 2 (1 ∷ at ∷ []) ∷ cell (at + 9) 4 (v / 2 ^ 32 ∷ v % 2 ^ 32 ∷ []) ∷ []
+  outputValueCells at (commitment p part) = cell (at + 1) 2 (p ∷ at ∷ []) ∷ []
+
+  module _ (i a at b at₁ at₂ p n : ℕ) where
+    abbrev OutputCells : Value → Type 0
+    OutputCells v =
+        ByCells now output i 0 14
+        (timed (at + 1) (outNote i 0 a at) ∷ (valueTimed (outNote i 2) (outNote i 4) at₁ v ++ (timed (at₂ + 1) (outNote i 6 b at₂) ∷ timed p (outNote i 8 p n) ∷ [])))
+        (cell (at + 1) 0 (a ∷ at ∷ []) ∷ (outputValueCells at₁ v ++ (cell (at₂ + 1) 6 (b ∷ at₂ ∷ []) ∷ cell p 8 (p ∷ n ∷ []) ∷ [])))
+        (blanks 14)
+        (if (at + 1) a ∷ if (at + 1) at ∷ if (at₁ + 1) (valuePrefix v) ∷ if (at₁ + 1) at₁ ∷ highIf at₁ v ∷ lowIf at₁ v ∷ if (at₂ + 1) b ∷ if (at₂ + 1) at₂ ∷ if p p ∷ if p n ∷ 0 ∷ 0 ∷ 0 ∷ 0 ∷ [])
+
+    output-cells : (v : Value) → OutputCells v
+    output-cells null = record { log = refl; filled = refl; fits = refl; long = refl }
+    output-cells (explicit v) = record { log = refl; filled = refl; fits = refl; long = refl }
+    output-cells (commitment q part) = record { log = refl; filled = refl; fits = refl; long = refl }
+
+  output-turns : (i at : ℕ) (x : Output) → Turns now output i 0 (outputTimed i at x) (blanks 14) (keptOutput at x ++ blanks 4)
+  unfolding kept
+  output-turns i at x front behind e =
+      let at₁ = at + length (tokenBytes (x .asset)) in
+      let at₂ = at₁ + length (valueBytes (x .value)) in
+      let at₃ = at₂ + length (tokenBytes (x .nonce)) in
+      let a = tokenPrefix (x .asset) in
+      let b = tokenPrefix (x .nonce) in
+      let p = counted at₃ (x .script) in
+      let n = length (x .script) in
+      let v = x .value in
+      turned now (output-cells i a at b at₁ at₂ p n v) front behind e
+      ∙ λ j. front ++ ((if (at + 1) a ∷ if (at + 1) at ∷ if (at₁ + 1) (valuePrefix v) ∷ if (at₁ + 1) at₁ ∷ high-if at₁ v j ∷ low-if at₁ v j ∷ if (at₂ + 1) b ∷ if (at₂ + 1) at₂ ∷ if p p ∷ if p n ∷ 0 ∷ 0 ∷ 0 ∷ 0 ∷ []) ++ behind)
+
+  -- ---- witnesses, beside the records that are there
+
+  module _ (i first at : ℕ) (x : InputWitness) where
+    abbrev witnessCells : List Cell
+    witnessCells =
+        let at₁ = at + length (bodyBytes (x .amountProof)) in
+        cell (counted at (x .amountProof)) 0 (bodyColumns at (x .amountProof)) ∷
+        cell (counted at₁ (x .keysProof)) 2 (bodyColumns at₁ (x .keysProof)) ∷
+        cell (counted (atItems at x) (x .scriptItems)) 4 (first ∷ length (x .scriptItems) ∷ []) ∷
+        cell (counted (atPegin at x) (x .peginItems)) 6 (length (x .peginItems) ∷ []) ∷
+        []
+
+    -- for the input table the items are as if they weren't there
+    witness-laid : (xs : List ℕ) → laidIn now input (inputWitnessTimed i first at x) xs ≡ laidIn now input (cells input i 13 witnessCells) xs
+    witness-laid xs =
+        let es = countedTimed i first at x in
+        let e = peginCounted i first at x in
+        let script = scriptTimed i first at x in
+        let pegin = peginTimed i first at x in
+        laid-skip now input es script (e ∷ pegin) (items-off input refl first _ (x .scriptItems)) xs
+        ∙ ap (λ (l : List Timed). laidIn now input (es ++ (e ∷ l)) xs) (sym (append-nil pegin))
+        ∙ laid-skip now input (es ++ (e ∷ [])) pegin [] (items-off input refl (first + length (x .scriptItems)) _ (x .peginItems)) xs
+
+    witness-cells : ByCells now input i 13 7 (cells input i 13 witnessCells) witnessCells (blanks 7) (kept now (inputWitnessMoments at x) (inputWitnessColumns first at x))
+    unfolding kept
+    witness-cells = record { log = refl; filled = refl; fits = refl; long = refl }
+
+    witness-turns : Turns now input i 13 (inputWitnessTimed i first at x) (blanks 7) (kept now (inputWitnessMoments at x) (inputWitnessColumns first at x))
+    witness-turns front behind e = witness-laid (front ++ (blanks 7 ++ behind)) ∙ turned now witness-cells front behind e
+
+  output-witness-turns : (i at : ℕ) (x : OutputWitness) → Turns now output i 10 (outputWitnessTimed i at x) (blanks 4) (kept now (outputWitnessMoments at x) (outputWitnessColumns at x))
+  unfolding kept
+  output-witness-turns i at x =
+      let at₁ = at + length (bodyBytes (x .surjectionProof)) in
+      turned now {cs = cell (counted at (x .surjectionProof)) 0 (bodyColumns at (x .surjectionProof)) ∷ cell (counted at₁ (x .rangeProof)) 2 (bodyColumns at₁ (x .rangeProof)) ∷ []} {old = blanks 4}
+      (record { log = refl; filled = refl; fits = refl; long = refl })
+
+  inputs-complete : (xs : List Input) (ws : List InputWitness) (i at first at′ : ℕ) → length ws ≡ length xs → Completes now input 13 7 i (placed inputBytes keptInput at xs) (inputWitnessesTimed i first at′ ws) (keptRows now (placed inputWitnessBytes inputWitnessMoments at′ ws) (placedWitnesses first at′ ws))
+  unfolding placed placedWitnesses keptRows kept
   inputs-complete [] [] i at first at′ e = no-record
   inputs-complete [] (w ∷ ws) i at first at′ e = absurd (omega arith)
   inputs-complete (x ∷ xs) [] i at first at′ e = absurd (omega arith)
   inputs-complete (x ∷ xs) (w ∷ ws) i at first at′ e =
-      record-more (inputWitnessLog i first at′ w) (ap (λ (n : ℕ). n + 7) (input-long at x)) refl (witness-turns i first at′ w (inputColumns at x) (input-long at x))
-      (subst (λ (n : ℕ). Completes input 7 (suc i) (placed inputBytes inputColumns (at + length (inputBytes x)) xs) (inputWitnessesLog room (suc i) (first + length (w .scriptItems) + length (w .peginItems)) (at′ + length (inputWitnessBytes w)) ws) (placedWitnesses n (at′ + length (inputWitnessBytes w)) ws)) (add-assoc first (length (w .scriptItems)) (length (w .peginItems)))
-      (inputs-complete xs ws (suc i) (at + length (inputBytes x)) (first + length (w .scriptItems) + length (w .peginItems)) (at′ + length (inputWitnessBytes w)) (omega arith)))
+      let at₁ = at′ + length (inputWitnessBytes w) in
+      record-more (inputWitnessTimed i first at′ w) (kept-input-long at x) refl (witness-turns i first at′ w)
+      (subst (λ (n : ℕ). Completes now input 13 7 (suc i) (placed inputBytes keptInput (at + length (inputBytes x)) xs) (inputWitnessesTimed (suc i) (first + length (w .scriptItems) + length (w .peginItems)) at₁ ws) (keptRows now (placed inputWitnessBytes inputWitnessMoments at₁ ws) (placedWitnesses n at₁ ws))) (add-assoc first (length (w .scriptItems)) (length (w .peginItems)))
+      (inputs-complete xs ws (suc i) (at + length (inputBytes x)) (first + length (w .scriptItems) + length (w .peginItems)) at₁ (omega arith)))
 
-outputs-complete : (xs : List Output) (ws : List OutputWitness) (i at at′ : ℕ) → length ws ≡ length xs → Completes output 4 i (placed outputBytes outputColumns at xs) (outputWitnessesLog i at′ ws) (placed outputWitnessBytes outputWitnessColumns at′ ws)
-unfolding placed
-outputs-complete [] [] i at at′ e = no-record
-outputs-complete [] (w ∷ ws) i at at′ e = absurd (omega arith)
-outputs-complete (x ∷ xs) [] i at at′ e = absurd (omega arith)
-outputs-complete (x ∷ xs) (w ∷ ws) i at at′ e =
-    record-more (outputWitnessLog i at′ w) refl refl (output-witness-turns i at′ w (outputColumns at x) refl) (outputs-complete xs ws (suc i) (at + length (outputBytes x)) (at′ + length (outputWitnessBytes w)) (omega arith))
+  outputs-complete : (xs : List Output) (ws : List OutputWitness) (i at at′ : ℕ) → length ws ≡ length xs → Completes now output 10 4 i (placed outputBytes keptOutput at xs) (outputWitnessesTimed i at′ ws) (keptRows now (placed outputWitnessBytes outputWitnessMoments at′ ws) (placed outputWitnessBytes outputWitnessColumns at′ ws))
+  unfolding placed keptRows kept
+  outputs-complete [] [] i at at′ e = no-record
+  outputs-complete [] (w ∷ ws) i at at′ e = absurd (omega arith)
+  outputs-complete (x ∷ xs) [] i at at′ e = absurd (omega arith)
+  outputs-complete (x ∷ xs) (w ∷ ws) i at at′ e =
+      record-more (outputWitnessTimed i at′ w) refl refl (output-witness-turns i at′ w) (outputs-complete xs ws (suc i) (at + length (outputBytes x)) (at′ + length (outputWitnessBytes w)) (omega arith))
 
--- ---- items
+  -- ---- items
 
-flat-both : (ps qs : List (List ℕ)) → flat (λ r. r) (ps ++ qs) ≡ flat (λ r. r) ps ++ flat (λ r. r) qs
-unfolding flat
-flat-both [] qs = refl
-flat-both (p ∷ ps) qs = ap (λ (l : List ℕ). p ++ l) (flat-both ps qs) ∙ sym (append-assoc p (flat (λ r. r) ps) (flat (λ r. r) qs))
+  abbrev keptItem : ℕ → List ℕ → List ℕ
+  keptItem at x = kept now (bodyMoments at x) (bodyColumns at x)
 
-item-turns : (j at : ℕ) (x : List ℕ) → Turns item j (itemLog j at x) (replicate 2 0) (bodyColumns at x)
-item-turns j at x = turned {w = 2} {cs = cell 0 (bodyColumns at x) ∷ []} {old = replicate 2 0} (record { log = refl; filled = refl; fits = refl; long = refl })
+  item-turns : (j at : ℕ) (x : List ℕ) → Turns now item j 0 (itemTimed j at x) (blanks 2) (keptItem at x)
+  unfolding kept
+  item-turns j at x = turned now {w = 2} {cs = cell (counted at x) 0 (bodyColumns at x) ∷ []} {old = blanks 2} (record { log = refl; filled = refl; fits = refl; long = refl })
 
-stack-turns : (xs : List (List ℕ)) (j at : ℕ) (front behind : List ℕ) → length front ≡ 2 * j → laidIn item (itemsLog j at xs) (front ++ (blanks (2 * length xs) ++ behind)) ≡ front ++ (flat (λ r. r) (placed bodyBytes bodyColumns at xs) ++ behind)
-stack-turns = all-turn item itemAt Bytes bodyBytes itemLog bodyColumns item-turns (λ at x. refl)
+  item-long : (at : ℕ) (x : List ℕ) → length (keptItem at x) ≡ 2
+  unfolding kept
+  item-long at x = refl
 
-items-long : (at : ℕ) (xs : List (List ℕ)) → length (flat (λ r. r) (placed bodyBytes bodyColumns at xs)) ≡ 2 * length xs
-unfolding flat placed
-items-long at [] = refl
-items-long at (x ∷ xs) = omega (arith, items-long (at + length (bodyBytes x)) xs)
+  stack-turns : (xs : List (List ℕ)) (j at : ℕ) (front behind : List ℕ) → length front ≡ 2 * j → laidIn now item (itemsTimed j at xs) (front ++ (blanks (2 * length xs) ++ behind)) ≡ front ++ (flat (λ r. r) (placed bodyBytes keptItem at xs) ++ behind)
+  stack-turns = all-turn now item bodyBytes itemTimed keptItem item-turns item-long
 
-module _ (i first at : ℕ) (x : InputWitness) where
-  abbrev scriptRecords : List (List ℕ)
-  scriptRecords = stackRecords (atItems i first at x) (x .scriptItems)
+  stack-long : (at : ℕ) (xs : List (List ℕ)) → length (flat (λ r. r) (placed bodyBytes keptItem at xs)) ≡ 2 * length xs
+  unfolding flat placed
+  stack-long at [] = refl
+  stack-long at (x ∷ xs) = omega (arith, length-append (keptItem at x) (flat (λ r. r) (placed bodyBytes keptItem (at + length (bodyBytes x)) xs)), item-long at x, stack-long (at + length (bodyBytes x)) xs)
 
-  abbrev peginRecords : List (List ℕ)
-  peginRecords = stackRecords (atItems i first at x + length (listBytes bodyBytes (x .scriptItems))) (x .peginItems)
+  module _ (i first at : ℕ) (x : InputWitness) where
+    abbrev scriptRecords : List (List ℕ)
+    scriptRecords = placed bodyBytes keptItem (counted (atItems at x) (x .scriptItems)) (x .scriptItems)
 
-  witness-items : (front behind : List ℕ) → length front ≡ 2 * first → laidIn item (inputWitnessLog i first at x) (front ++ (blanks (2 * itemsOf x) ++ behind)) ≡ front ++ (flat (λ r. r) (witnessItems at x) ++ behind)
-  unfolding laidIn
-  witness-items front behind e =
-      let a = 2 * length (x .scriptItems) in
-      let b = 2 * length (x .peginItems) in
-      let s = flat (λ r. r) scriptRecords in
-      let p = flat (λ r. r) peginRecords in
-      let split : blanks (2 * itemsOf x) ≡ blanks a ++ blanks b = ap blanks (mul-add 2 (length (x .scriptItems)) (length (x .peginItems))) ∙ sym (replicate-append-replicate a b 0) in
-      let further : length (front ++ s) ≡ 2 * (first + length (x .scriptItems)) = omega (arith, length-append front s, items-long (atItems i first at x + length (compactBytes (length (x .scriptItems)))) (x .scriptItems)) in
-      laid-both item (scriptLog i first at x) (entry input i 19 (length (x .peginItems) ∷ []) ∷ peginLog i first at x) (front ++ (blanks (2 * itemsOf x) ++ behind))
-      ∙ ap (λ (l : List ℕ). laidIn item (peginLog i first at x) (laidIn item (scriptLog i first at x) (front ++ l))) (ap (λ (l : List ℕ). l ++ behind) split ∙ append-assoc (blanks a) (blanks b) behind)
-      ∙ ap (laidIn item (peginLog i first at x)) (stack-turns (x .scriptItems) first _ front (blanks b ++ behind) e ∙ sym (append-assoc front s (blanks b ++ behind)))
-      ∙ stack-turns (x .peginItems) (first + length (x .scriptItems)) _ (front ++ s) behind further
-      ∙ append-assoc front s (p ++ behind)
-      ∙ ap (λ (l : List ℕ). front ++ l) (sym (append-assoc s p behind) ∙ ap (λ (l : List ℕ). l ++ behind) (sym (flat-both scriptRecords peginRecords)))
+    abbrev peginRecords : List (List ℕ)
+    peginRecords = placed bodyBytes keptItem (counted (atPegin at x) (x .peginItems)) (x .peginItems)
 
-  witness-items-long : length (flat (λ r. r) (witnessItems at x)) ≡ 2 * itemsOf x
-  witness-items-long =
-      omega (arith, ap (λ (l : List ℕ). length l) (flat-both scriptRecords peginRecords), length-append (flat (λ r. r) scriptRecords) (flat (λ r. r) peginRecords), items-long (atItems i first at x + length (compactBytes (length (x .scriptItems)))) (x .scriptItems), items-long (atItems i first at x + length (listBytes bodyBytes (x .scriptItems)) + length (compactBytes (length (x .peginItems)))) (x .peginItems))
+    witness-items : (front behind : List ℕ) → length front ≡ 2 * first → laidIn now item (inputWitnessTimed i first at x) (front ++ (blanks (2 * itemsOf x) ++ behind)) ≡ front ++ (flat (λ r. r) (scriptRecords ++ peginRecords) ++ behind)
+    witness-items front behind e =
+        let a = 2 * length (x .scriptItems) in
+        let b = 2 * length (x .peginItems) in
+        let s = flat (λ r. r) scriptRecords in
+        let p = flat (λ r. r) peginRecords in
+        let script = scriptTimed i first at x in
+        let pegin = peginTimed i first at x in
+        let split : blanks (2 * itemsOf x) ≡ blanks a ++ blanks b = ap blanks (mul-add 2 (length (x .scriptItems)) (length (x .peginItems))) ∙ sym (replicate-append-replicate a b 0) in
+        let further : length (front ++ s) ≡ 2 * (first + length (x .scriptItems)) = omega (arith, length-append front s, stack-long (counted (atItems at x) (x .scriptItems)) (x .scriptItems)) in
+        laid-skip now item [] (countedTimed i first at x) (script ++ (peginCounted i first at x ∷ pegin)) (refl, (refl, (refl, tt))) (front ++ (blanks (2 * itemsOf x) ++ behind))
+        ∙ laid-skip now item script (peginCounted i first at x ∷ []) pegin (refl, tt) (front ++ (blanks (2 * itemsOf x) ++ behind))
+        ∙ laid-both now item script pegin (front ++ (blanks (2 * itemsOf x) ++ behind))
+        ∙ ap (λ (l : List ℕ). laidIn now item pegin (laidIn now item script (front ++ l))) (ap (λ (l : List ℕ). l ++ behind) split ∙ append-assoc (blanks a) (blanks b) behind)
+        ∙ ap (laidIn now item pegin) (stack-turns (x .scriptItems) first _ front (blanks b ++ behind) e ∙ sym (append-assoc front s (blanks b ++ behind)))
+        ∙ stack-turns (x .peginItems) (first + length (x .scriptItems)) _ (front ++ s) behind further
+        ∙ append-assoc front s (p ++ behind)
+        ∙ ap (λ (l : List ℕ). front ++ l) (sym (append-assoc s p behind) ∙ ap (λ (l : List ℕ). l ++ behind) (sym (flat-both scriptRecords peginRecords)))
 
-module _ (room : ℕ) where
-  pub items-turn : (ws : List InputWitness) (i first at : ℕ) (front behind : List ℕ) → length front ≡ 2 * first → laidIn item (inputWitnessesLog room i first at ws) (front ++ (blanks (2 * sum itemsOf ws) ++ behind)) ≡ front ++ (flat (λ r. r) (witnessesItems at ws) ++ behind)
-  unfolding laidIn sum witnessesItems flat
+    witness-items-long : length (flat (λ r. r) (scriptRecords ++ peginRecords)) ≡ 2 * itemsOf x
+    witness-items-long =
+        omega (arith, ap (λ (l : List ℕ). length l) (flat-both scriptRecords peginRecords), length-append (flat (λ r. r) scriptRecords) (flat (λ r. r) peginRecords), stack-long (counted (atItems at x) (x .scriptItems)) (x .scriptItems), stack-long (counted (atPegin at x) (x .peginItems)) (x .peginItems))
+
+    -- a witness's items, kept
+    stacks-kept : keptRows now (witnessItemMoments at x) (witnessItems at x) ≡ scriptRecords ++ peginRecords
+    stacks-kept =
+        let m = stackMoments (atItems at x) (x .scriptItems) in
+        let r = stackRecords (atItems at x) (x .scriptItems) in
+        rows-both now m r (stackMoments (atPegin at x) (x .peginItems)) (stackRecords (atPegin at x) (x .peginItems)) (alike-placed bodyBytes bodyMoments bodyColumns (λ at x. refl) _ (x .scriptItems))
+        ∙ sym (ap₂ (λ (s p : List (List ℕ)). s ++ p) (kept-placed now bodyBytes bodyMoments bodyColumns _ (x .scriptItems)) (kept-placed now bodyBytes bodyMoments bodyColumns _ (x .peginItems)))
+
+  items-turn : (ws : List InputWitness) (i first at : ℕ) (front behind : List ℕ) → length front ≡ 2 * first → laidIn now item (inputWitnessesTimed i first at ws) (front ++ (blanks (2 * sum itemsOf ws) ++ behind)) ≡ front ++ (flat (λ r. r) (keptRows now (witnessesItemMoments at ws) (witnessesItems at ws)) ++ behind)
+  unfolding laidIn sum witnessesItems witnessesItemMoments flat keptRows
   items-turn [] i first at front behind e = refl
   items-turn (x ∷ ws) i first at front behind e =
       let at′ = at + length (inputWitnessBytes x) in
-      let es = inputWitnessesLog room (suc i) (first + length (x .scriptItems) + length (x .peginItems)) at′ ws in
+      let es = inputWitnessesTimed (suc i) (first + length (x .scriptItems) + length (x .peginItems)) at′ ws in
       let a = 2 * itemsOf x in
       let b = 2 * sum itemsOf ws in
       let split : blanks (2 * (itemsOf x + sum itemsOf ws)) ≡ blanks a ++ blanks b = ap blanks (mul-add 2 (itemsOf x) (sum itemsOf ws)) ∙ sym (replicate-append-replicate a b 0) in
-      let s = flat (λ r. r) (witnessItems at x) in
-      let rest = flat (λ r. r) (witnessesItems at′ ws) in
+      let own = scriptRecords i first at x ++ peginRecords i first at x in
+      let others = keptRows now (witnessesItemMoments at′ ws) (witnessesItems at′ ws) in
+      let s = flat (λ r. r) own in
+      let rest = flat (λ r. r) others in
       let further : length (front ++ s) ≡ 2 * (first + length (x .scriptItems) + length (x .peginItems)) = omega (arith, length-append front s, witness-items-long i first at x) in
-      laid-both item (inputWitnessLog i first at x) es (front ++ (blanks (2 * (itemsOf x + sum itemsOf ws)) ++ behind))
-      ∙ ap (λ (l : List ℕ). laidIn item es (laidIn item (inputWitnessLog i first at x) (front ++ l))) (ap (λ (l : List ℕ). l ++ behind) split ∙ append-assoc (blanks a) (blanks b) behind)
-      ∙ ap (laidIn item es) (witness-items i first at x front (blanks b ++ behind) e ∙ sym (append-assoc front s (blanks b ++ behind)))
+      let together : own ++ others ≡ keptRows now (witnessItemMoments at x ++ witnessesItemMoments at′ ws) (witnessItems at x ++ witnessesItems at′ ws) =
+      ap (λ (rows : List (List ℕ)). rows ++ others) (sym (stacks-kept i first at x)) ∙ sym (rows-both now (witnessItemMoments at x) (witnessItems at x) (witnessesItemMoments at′ ws) (witnessesItems at′ ws) (items-alike at x)) in
+      laid-both now item (inputWitnessTimed i first at x) es (front ++ (blanks (2 * (itemsOf x + sum itemsOf ws)) ++ behind))
+      ∙ ap (λ (l : List ℕ). laidIn now item es (laidIn now item (inputWitnessTimed i first at x) (front ++ l))) (ap (λ (l : List ℕ). l ++ behind) split ∙ append-assoc (blanks a) (blanks b) behind)
+      ∙ ap (laidIn now item es) (witness-items i first at x front (blanks b ++ behind) e ∙ sym (append-assoc front s (blanks b ++ behind)))
       ∙ items-turn ws (suc i) (first + length (x .scriptItems) + length (x .peginItems)) at′ (front ++ s) behind further
       ∙ append-assoc front s (rest ++ behind)
-      ∙ ap (λ (l : List ℕ). front ++ l) (sym (append-assoc s rest behind) ∙ ap (λ (l : List ℕ). l ++ behind) (sym (flat-both (witnessItems at x) (witnessesItems at′ ws))))
+      ∙ ap (λ (l : List ℕ). front ++ l) (sym (append-assoc s rest behind) ∙ ap (λ (l : List ℕ). l ++ behind) (sym (flat-both own others) ∙ ap (flat (λ r. r)) together))
 
--- ---- logs that leave a table alone
+  -- ---- the whole
 
-value-off : (t : Table) (note amount : ℕ → ℕ → Entry) → ((a b : ℕ) → same t (note a b .table) ≡ false) → ((a b : ℕ) → same t (amount a b .table) ≡ false) → (at : ℕ) (v : Value) → Off t (valueLog note amount at v)
-value-off t note amount n m at null = (n 0 at, tt)
-value-off t note amount n m at (explicit v) = (n 1 at, (m (v / 2 ^ 32) (v % 2 ^ 32), tt))
-value-off t note amount n m at (commitment p part) = (n p at, tt)
+  module _ (x : Contents) where
+    abbrev ins : List Input
+    ins = x .inputs
 
-module _ (t : Table) (n : same t input ≡ false) where
-  issued-off : (i at : ℕ) (o : Option Issuance) → Off t (issuedLog i at o)
-  issued-off i at none = tt
-  issued-off i at (some x) = (n, off-both t (valueLog (amountNote i) (amountHalves i) 0 (x .amount)) (valueLog (keysNote i) (keysHalves i) 0 (x .keys)) (value-off t (amountNote i) (amountHalves i) (λ a b. n) (λ a b. n) 0 (x .amount)) (value-off t (keysNote i) (keysHalves i) (λ a b. n) (λ a b. n) 0 (x .keys)))
+    abbrev outs : List Output
+    outs = x .outputs
 
-  inputs-off : (xs : List Input) (i at : ℕ) → Off t (inputsLog i at xs)
-  inputs-off [] i at = tt
-  inputs-off (x ∷ xs) i at = off-both t (inputLog i at x) (inputsLog (suc i) (at + length (inputBytes x)) xs) (n, (n, (n, (n, issued-off i (at + 36 + length (bodyBytes (x .script)) + 4) (x .issuance))))) (inputs-off xs (suc i) (at + length (inputBytes x)))
+    abbrev inputsLaid : List Timed
+    inputsLaid = inputsTimed 0 (inputsAt x) ins
 
-  witnesses-off : same t item ≡ false → (room : ℕ) (ws : List InputWitness) (i first at : ℕ) → Off t (inputWitnessesLog room i first at ws)
-  witnesses-off m room [] i first at = tt
-  witnesses-off m room (w ∷ ws) i first at =
-      off-both t (inputWitnessLog i first at w) (inputWitnessesLog room (suc i) (first + length (w .scriptItems) + length (w .peginItems)) (at + length (inputWitnessBytes w)) ws)
-      (n, (n, (n, off-both t (scriptLog i first at w) (entry input i 19 (length (w .peginItems) ∷ []) ∷ peginLog i first at w) (items-off t m first _ (w .scriptItems)) (n, items-off t m (first + length (w .scriptItems)) _ (w .peginItems)))))
-      (witnesses-off m room ws (suc i) (first + length (w .scriptItems) + length (w .peginItems)) (at + length (inputWitnessBytes w)))
+    abbrev outputsLaid : List Timed
+    outputsLaid = outputsTimed 0 (outputsAt x) outs
 
-module _ (t : Table) (n : same t output ≡ false) where
-  outputs-off : (xs : List Output) (i at : ℕ) → Off t (outputsLog i at xs)
-  outputs-off [] i at = tt
-  outputs-off (x ∷ xs) i at =
-      let at₁ = at + length (tokenBytes (x .asset)) in
-      let at₂ = at₁ + length (valueBytes (x .value)) in
-      let at₃ = at₂ + length (tokenBytes (x .nonce)) in
-      off-both t (outputLog i at x) (outputsLog (suc i) (at + length (outputBytes x)) xs)
-      (n, off-both t (valueLog (outNote i 2) (outNote i 4) at₁ (x .value)) (outNote i 6 (tokenPrefix (x .nonce)) at₂ ∷ outNote i 8 (at₃ + length (compactBytes (length (x .script)))) (length (x .script)) ∷ []) (value-off t (outNote i 2) (outNote i 4) (λ a b. n) (λ a b. n) at₁ (x .value)) (n, (n, tt)))
-      (outputs-off xs (suc i) (at + length (outputBytes x)))
+    input-table : (o : Option Witnesses) → MaybeAllowed (length ins) (length outs) o → (behind : List ℕ) → laidIn now input (inputsLaid ++ (outputsLaid ++ tailTimed (witnessesAt x) o)) (blanks (20 * length ins) ++ behind) ≡ flat (λ r. r) (beside (placed inputBytes keptInput (inputsAt x) ins) (keptRows now (allInputWitnessMoments (witnessesAt x) (length ins) o) (inputWitnessRecords (witnessesAt x) (length ins) o))) ++ behind
+    input-table o g behind =
+        let rest = tailTimed (witnessesAt x) o in
+        laid-both now input inputsLaid (outputsLaid ++ rest) (blanks (20 * length ins) ++ behind)
+        ∙ ap (laidIn now input (outputsLaid ++ rest)) (all-turn now input inputBytes inputTimed (λ at y. keptInput at y ++ blanks 7) input-turns (λ at y. length-append (keptInput at y) (blanks 7) ∙ ap (λ (n : ℕ). n + 7) (kept-input-long at y)) ins 0 (inputsAt x) [] behind refl)
+        ∙ laid-skip now input [] outputsLaid rest (outputs-off input refl outs 0 (outputsAt x)) _
+        ∙ ap (λ (l : List ℕ). laidIn now input rest (l ++ behind)) (bare-flat inputBytes keptInput 7 (inputsAt x) ins)
+        ∙ witness-part o g
+      where
+        witness-part : (o : Option Witnesses) → MaybeAllowed (length ins) (length outs) o → laidIn now input (tailTimed (witnessesAt x) o) (flat (λ r. r ++ blanks 7) (placed inputBytes keptInput (inputsAt x) ins) ++ behind) ≡ flat (λ r. r) (beside (placed inputBytes keptInput (inputsAt x) ins) (keptRows now (allInputWitnessMoments (witnessesAt x) (length ins) o) (inputWitnessRecords (witnessesAt x) (length ins) o))) ++ behind
+        witness-part none g =
+            laid-off now input [] tt _
+            ∙ ap (λ (l : List ℕ). l ++ behind) (bare-beside 7 (placed inputBytes keptInput (inputsAt x) ins) (length ins) (placed-length inputBytes keptInput (inputsAt x) ins) ∙ ap (λ (rows : List (List ℕ)). flat (λ r. r) (beside (placed inputBytes keptInput (inputsAt x) ins) rows)) (sym (rows-same now (length ins) 7 (witnessesAt x))))
+        witness-part (some w) g =
+            let at′ = witnessesAt x + length (flat inputWitnessBytes (w .inputs)) in
+            laid-both now input (inputWitnessesTimed 0 0 (witnessesAt x) (w .inputs)) (outputWitnessesTimed 0 at′ (w .outputs)) _
+            ∙ ap (laidIn now input (outputWitnessesTimed 0 at′ (w .outputs))) (completed now refl (inputs-complete ins (w .inputs) 0 (inputsAt x) 0 (witnessesAt x) (g .inputs)) [] behind refl)
+            ∙ laid-off now input (outputWitnessesTimed 0 at′ (w .outputs)) (output-witnesses-off input refl (w .outputs) 0 _) _
 
-  output-witnesses-off : (ws : List OutputWitness) (i at : ℕ) → Off t (outputWitnessesLog i at ws)
-  output-witnesses-off [] i at = tt
-  output-witnesses-off (w ∷ ws) i at = (n, (n, output-witnesses-off ws (suc i) (at + length (outputWitnessBytes w))))
+    output-table : (o : Option Witnesses) → MaybeAllowed (length ins) (length outs) o → (behind : List ℕ) → laidIn now output (inputsLaid ++ (outputsLaid ++ tailTimed (witnessesAt x) o)) (blanks (14 * length outs) ++ behind) ≡ flat (λ r. r) (beside (placed outputBytes keptOutput (outputsAt x) outs) (keptRows now (allOutputWitnessMoments (witnessesAt x) (length outs) o) (outputWitnessRecords (witnessesAt x) (length outs) o))) ++ behind
+    unfolding kept
+    output-table o g behind =
+        let rest = tailTimed (witnessesAt x) o in
+        laid-skip now output [] inputsLaid (outputsLaid ++ rest) (inputs-off output refl ins 0 (inputsAt x)) _
+        ∙ laid-both now output outputsLaid rest (blanks (14 * length outs) ++ behind)
+        ∙ ap (laidIn now output rest) (all-turn now output outputBytes outputTimed (λ at y. keptOutput at y ++ blanks 4) output-turns (λ at y. refl) outs 0 (outputsAt x) [] behind refl)
+        ∙ ap (λ (l : List ℕ). laidIn now output rest (l ++ behind)) (bare-flat outputBytes keptOutput 4 (outputsAt x) outs)
+        ∙ witness-part o g
+      where
+        witness-part : (o : Option Witnesses) → MaybeAllowed (length ins) (length outs) o → laidIn now output (tailTimed (witnessesAt x) o) (flat (λ r. r ++ blanks 4) (placed outputBytes keptOutput (outputsAt x) outs) ++ behind) ≡ flat (λ r. r) (beside (placed outputBytes keptOutput (outputsAt x) outs) (keptRows now (allOutputWitnessMoments (witnessesAt x) (length outs) o) (outputWitnessRecords (witnessesAt x) (length outs) o))) ++ behind
+        witness-part none g =
+            laid-off now output [] tt _
+            ∙ ap (λ (l : List ℕ). l ++ behind) (bare-beside 4 (placed outputBytes keptOutput (outputsAt x) outs) (length outs) (placed-length outputBytes keptOutput (outputsAt x) outs) ∙ ap (λ (rows : List (List ℕ)). flat (λ r. r) (beside (placed outputBytes keptOutput (outputsAt x) outs) rows)) (sym (rows-same now (length outs) 4 (witnessesAt x))))
+        witness-part (some w) g =
+            let at′ = witnessesAt x + length (flat inputWitnessBytes (w .inputs)) in
+            laid-skip now output [] (inputWitnessesTimed 0 0 (witnessesAt x) (w .inputs)) (outputWitnessesTimed 0 at′ (w .outputs)) (witnesses-off output refl refl (w .inputs) 0 0 (witnessesAt x)) _
+            ∙ completed now refl (outputs-complete outs (w .outputs) 0 (outputsAt x) at′ (g .outputs)) [] behind refl
 
--- ---- the whole
-
--- records that were only filled up with 0
-bare-flat : {X : Type 0} (bytes : X → List ℕ) (columns : ℕ → X → List ℕ) (b at : ℕ) (xs : List X) → flat (λ r. r) (placed bytes (λ at x. columns at x ++ blanks b) at xs) ≡ flat (λ r. r ++ blanks b) (placed bytes columns at xs)
-unfolding flat placed
-bare-flat bytes columns b at [] = refl
-bare-flat bytes columns b at (x ∷ xs) = ap (λ (l : List ℕ). (columns at x ++ blanks b) ++ l) (bare-flat bytes columns b (at + length (bytes x)) xs)
-
-bare-beside : (b : ℕ) (rows : List (List ℕ)) (n : ℕ) → length rows ≡ n → flat (λ r. r ++ blanks b) rows ≡ flat (λ r. r) (beside rows (replicate n (blanks b)))
-unfolding flat beside
-bare-beside b [] n e = refl
-bare-beside b (r ∷ rows) zero e = absurd (omega arith)
-bare-beside b (r ∷ rows) (suc n) e = ap (λ (l : List ℕ). (r ++ blanks b) ++ l) (bare-beside b rows n (omega arith))
-
-pub placed-length : {X : Type 0} (bytes : X → List ℕ) (columns : ℕ → X → List ℕ) (at : ℕ) (xs : List X) → length (placed bytes columns at xs) ≡ length xs
-unfolding placed
-placed-length bytes columns at [] = refl
-placed-length bytes columns at (x ∷ xs) = ap suc (placed-length bytes columns (at + length (bytes x)) xs)
-
--- so many numbers that are 0 are some, and then the rest
-split-blanks : (size k : ℕ) → k ≤ size → blanks size ≡ blanks k ++ blanks (size - k)
-split-blanks size k h = let all-of : size ≡ k + (size - k) = omega arith in ap blanks all-of ∙ sym (replicate-append-replicate k (size - k) 0)
-
--- what a table of zeros becomes, if so many of its first numbers become the records
-filled : (t : Table) (es : List Entry) (size k : ℕ) (rows : List (List ℕ)) → k ≤ size → length (flat (λ r. r) rows) ≡ k → ((behind : List ℕ) → laidIn t es (blanks k ++ behind) ≡ flat (λ r. r) rows ++ behind) → laidIn t es (blanks size) ≡ table size rows
-filled t es size k rows h e turns =
-    ap (laidIn t es) (split-blanks size k h) ∙ turns (blanks (size - k)) ∙ ap (λ (n : ℕ). flat (λ r. r) rows ++ blanks (size - n)) (sym e)
-
-nothing-flat : (behind : List ℕ) → behind ≡ flat {X = List ℕ} (λ r. r) [] ++ behind
-unfolding flat
-nothing-flat behind = refl
-
-module _ (room : Room) (x : Contents) where
-  abbrev ins : List Input
-  ins = x .inputs
-
-  abbrev outs : List Output
-  outs = x .outputs
-
-  input-table : (o : Option Witnesses) → MaybeAllowed (length ins) (length outs) o → (behind : List ℕ) → laidIn input (inputsLog 0 (inputsAt x) ins ++ (outputsLog 0 (outputsAt x) outs ++ tailLog (room .items) (length ins) (length outs) (flagOf (x .witnesses)) (witnessesAt x) o)) (blanks (20 * length ins) ++ behind) ≡ flat (λ r. r) (beside (placed inputBytes inputColumns (inputsAt x) ins) (inputWitnessRecords (witnessesAt x) (length ins) o)) ++ behind
-  input-table o g behind =
-      let rest = tailLog (room .items) (length ins) (length outs) (flagOf (x .witnesses)) (witnessesAt x) o in
-      let rows = placed inputBytes inputColumns (inputsAt x) ins in
-      laid-both input (inputsLog 0 (inputsAt x) ins) (outputsLog 0 (outputsAt x) outs ++ rest) (blanks (20 * length ins) ++ behind)
-      ∙ ap (laidIn input (outputsLog 0 (outputsAt x) outs ++ rest)) (all-turn input inputAt InputAllowed inputBytes inputLog bareInput input-turns (λ at y. length-append (inputColumns at y) (blanks 7) ∙ ap (λ (n : ℕ). n + 7) (input-long at y)) ins 0 (inputsAt x) [] behind refl)
-      ∙ laid-skip input [] (outputsLog 0 (outputsAt x) outs) rest (outputs-off input refl outs 0 (outputsAt x)) _
-      ∙ ap (λ (l : List ℕ). laidIn input rest (l ++ behind)) (bare-flat inputBytes inputColumns 7 (inputsAt x) ins)
-      ∙ witness-part o g
-    where
-      witness-part : (o : Option Witnesses) → MaybeAllowed (length ins) (length outs) o → laidIn input (tailLog (room .items) (length ins) (length outs) (flagOf (x .witnesses)) (witnessesAt x) o) (flat (λ r. r ++ blanks 7) (placed inputBytes inputColumns (inputsAt x) ins) ++ behind) ≡ flat (λ r. r) (beside (placed inputBytes inputColumns (inputsAt x) ins) (inputWitnessRecords (witnessesAt x) (length ins) o)) ++ behind
-      witness-part none g = laid-off input [] tt _ ∙ ap (λ (l : List ℕ). l ++ behind) (bare-beside 7 (placed inputBytes inputColumns (inputsAt x) ins) (length ins) (placed-length inputBytes inputColumns (inputsAt x) ins))
-      witness-part (some w) g =
-          laid-both input (inputWitnessesLog (room .items) 0 0 (witnessesAt x) (w .inputs)) (outputWitnessesLog 0 (witnessesAt x + length (flat inputWitnessBytes (w .inputs))) (w .outputs)) _
-          ∙ ap (laidIn input (outputWitnessesLog 0 (witnessesAt x + length (flat inputWitnessBytes (w .inputs))) (w .outputs))) (completed (inputs-complete (room .items) ins (w .inputs) 0 (inputsAt x) 0 (witnessesAt x) (g .inputs)) [] behind refl)
-          ∙ laid-off input (outputWitnessesLog 0 (witnessesAt x + length (flat inputWitnessBytes (w .inputs))) (w .outputs)) (output-witnesses-off input refl (w .outputs) 0 _) _
-
-  output-table : (o : Option Witnesses) → MaybeAllowed (length ins) (length outs) o → (behind : List ℕ) → laidIn output (inputsLog 0 (inputsAt x) ins ++ (outputsLog 0 (outputsAt x) outs ++ tailLog (room .items) (length ins) (length outs) (flagOf (x .witnesses)) (witnessesAt x) o)) (blanks (14 * length outs) ++ behind) ≡ flat (λ r. r) (beside (placed outputBytes outputColumns (outputsAt x) outs) (outputWitnessRecords (witnessesAt x) (length outs) o)) ++ behind
-  output-table o g behind =
-      let rest = tailLog (room .items) (length ins) (length outs) (flagOf (x .witnesses)) (witnessesAt x) o in
-      laid-skip output [] (inputsLog 0 (inputsAt x) ins) (outputsLog 0 (outputsAt x) outs ++ rest) (inputs-off output refl ins 0 (inputsAt x)) _
-      ∙ laid-both output (outputsLog 0 (outputsAt x) outs) rest (blanks (14 * length outs) ++ behind)
-      ∙ ap (laidIn output rest) (all-turn output outputAt OutputAllowed outputBytes outputLog bareOutput output-turns (λ at y. refl) outs 0 (outputsAt x) [] behind refl)
-      ∙ ap (λ (l : List ℕ). laidIn output rest (l ++ behind)) (bare-flat outputBytes outputColumns 4 (outputsAt x) outs)
-      ∙ witness-part o g
-    where
-      witness-part : (o : Option Witnesses) → MaybeAllowed (length ins) (length outs) o → laidIn output (tailLog (room .items) (length ins) (length outs) (flagOf (x .witnesses)) (witnessesAt x) o) (flat (λ r. r ++ blanks 4) (placed outputBytes outputColumns (outputsAt x) outs) ++ behind) ≡ flat (λ r. r) (beside (placed outputBytes outputColumns (outputsAt x) outs) (outputWitnessRecords (witnessesAt x) (length outs) o)) ++ behind
-      witness-part none g = laid-off output [] tt _ ∙ ap (λ (l : List ℕ). l ++ behind) (bare-beside 4 (placed outputBytes outputColumns (outputsAt x) outs) (length outs) (placed-length outputBytes outputColumns (outputsAt x) outs))
-      witness-part (some w) g =
-          laid-skip output [] (inputWitnessesLog (room .items) 0 0 (witnessesAt x) (w .inputs)) (outputWitnessesLog 0 (witnessesAt x + length (flat inputWitnessBytes (w .inputs))) (w .outputs)) (witnesses-off output refl refl (room .items) (w .inputs) 0 0 (witnessesAt x)) _
-          ∙ completed (outputs-complete outs (w .outputs) 0 (outputsAt x) (witnessesAt x + length (flat inputWitnessBytes (w .inputs))) (g .outputs)) [] behind refl
-
-  item-table : (o : Option Witnesses) (behind : List ℕ) → laidIn item (inputsLog 0 (inputsAt x) ins ++ (outputsLog 0 (outputsAt x) outs ++ tailLog (room .items) (length ins) (length outs) (flagOf (x .witnesses)) (witnessesAt x) o)) (blanks (2 * itemCount o) ++ behind) ≡ flat (λ r. r) (allItems (witnessesAt x) o) ++ behind
-  item-table o behind =
-      let rest = tailLog (room .items) (length ins) (length outs) (flagOf (x .witnesses)) (witnessesAt x) o in
-      laid-skip item [] (inputsLog 0 (inputsAt x) ins) (outputsLog 0 (outputsAt x) outs ++ rest) (inputs-off item refl ins 0 (inputsAt x)) _
-      ∙ laid-skip item [] (outputsLog 0 (outputsAt x) outs) rest (outputs-off item refl outs 0 (outputsAt x)) _
-      ∙ witness-part o
-    where
-      witness-part : (o : Option Witnesses) → laidIn item (tailLog (room .items) (length ins) (length outs) (flagOf (x .witnesses)) (witnessesAt x) o) (blanks (2 * itemCount o) ++ behind) ≡ flat (λ r. r) (allItems (witnessesAt x) o) ++ behind
-      witness-part none = laid-off item [] tt _ ∙ nothing-flat behind
-      witness-part (some w) =
-          laid-both item (inputWitnessesLog (room .items) 0 0 (witnessesAt x) (w .inputs)) (outputWitnessesLog 0 (witnessesAt x + length (flat inputWitnessBytes (w .inputs))) (w .outputs)) _
-          ∙ laid-off item (outputWitnessesLog 0 (witnessesAt x + length (flat inputWitnessBytes (w .inputs))) (w .outputs)) (output-witnesses-off item refl (w .outputs) 0 _) _
-          ∙ items-turn (room .items) (w .inputs) 0 0 (witnessesAt x) [] behind refl
+    item-table : (o : Option Witnesses) (behind : List ℕ) → laidIn now item (inputsLaid ++ (outputsLaid ++ tailTimed (witnessesAt x) o)) (blanks (2 * itemCount o) ++ behind) ≡ flat (λ r. r) (keptRows now (allItemMoments (witnessesAt x) o) (allItems (witnessesAt x) o)) ++ behind
+    unfolding keptRows
+    item-table o behind =
+        let rest = tailTimed (witnessesAt x) o in
+        laid-skip now item [] inputsLaid (outputsLaid ++ rest) (inputs-off item refl ins 0 (inputsAt x)) _
+        ∙ laid-skip now item [] outputsLaid rest (outputs-off item refl outs 0 (outputsAt x)) _
+        ∙ witness-part o
+      where
+        witness-part : (o : Option Witnesses) → laidIn now item (tailTimed (witnessesAt x) o) (blanks (2 * itemCount o) ++ behind) ≡ flat (λ r. r) (keptRows now (allItemMoments (witnessesAt x) o) (allItems (witnessesAt x) o)) ++ behind
+        witness-part none = laid-off now item [] tt _ ∙ nothing-flat behind
+        witness-part (some w) =
+            let at′ = witnessesAt x + length (flat inputWitnessBytes (w .inputs)) in
+            laid-both now item (inputWitnessesTimed 0 0 (witnessesAt x) (w .inputs)) (outputWitnessesTimed 0 at′ (w .outputs)) _
+            ∙ laid-off now item (outputWitnessesTimed 0 at′ (w .outputs)) (output-witnesses-off item refl (w .outputs) 0 _) _
+            ∙ items-turn (w .inputs) 0 0 (witnessesAt x) [] behind refl
 
 -- ---- records of one width
 
@@ -631,7 +547,7 @@ unfolding witnessesItems
 items-wide at [] = tt
 items-wide at (x ∷ xs) =
     wide-both 2 (witnessItems at x) (witnessesItems (at + length (inputWitnessBytes x)) xs)
-    (wide-both 2 (scriptRecords 0 0 at x) (peginRecords 0 0 at x) (placed-wide bodyBytes bodyColumns 2 (λ at x. refl) _ (x .scriptItems)) (placed-wide bodyBytes bodyColumns 2 (λ at x. refl) _ (x .peginItems)))
+    (wide-both 2 (stackRecords (atItems at x) (x .scriptItems)) (stackRecords (atPegin at x) (x .peginItems)) (placed-wide bodyBytes bodyColumns 2 (λ at x. refl) _ (x .scriptItems)) (placed-wide bodyBytes bodyColumns 2 (λ at x. refl) _ (x .peginItems)))
     (items-wide (at + length (inputWitnessBytes x)) xs)
 
 items-length : (at : ℕ) (ws : List InputWitness) → length (witnessesItems at ws) ≡ sum itemsOf ws
@@ -641,10 +557,10 @@ items-length at (x ∷ xs) =
     omega (
       arith,
       both-length (witnessItems at x) (witnessesItems (at + length (inputWitnessBytes x)) xs),
-      both-length (scriptRecords 0 0 at x) (peginRecords 0 0 at x),
+      both-length (stackRecords (atItems at x) (x .scriptItems)) (stackRecords (atPegin at x) (x .peginItems)),
       items-length (at + length (inputWitnessBytes x)) xs,
-      placed-length bodyBytes bodyColumns (atItems 0 0 at x + length (compactBytes (length (x .scriptItems)))) (x .scriptItems),
-      placed-length bodyBytes bodyColumns (atItems 0 0 at x + length (listBytes bodyBytes (x .scriptItems)) + length (compactBytes (length (x .peginItems)))) (x .peginItems),
+      placed-length bodyBytes bodyColumns (counted (atItems at x) (x .scriptItems)) (x .scriptItems),
+      placed-length bodyBytes bodyColumns (counted (atPegin at x) (x .peginItems)) (x .peginItems),
     )
 
 pub all-items-wide : (at : ℕ) (o : Option Witnesses) → Wide 2 (allItems at o)
@@ -666,6 +582,47 @@ outputRows x = beside (placed outputBytes outputColumns (outputsAt x) (x .output
 abbrev pub itemRows : Contents → List (List ℕ)
 itemRows x = allItems (witnessesAt x) (x .witnesses)
 
+abbrev inputMomentRows : Contents → List (List ℕ)
+inputMomentRows x = beside (placed inputBytes inputMoments (inputsAt x) (x .inputs)) (allInputWitnessMoments (witnessesAt x) (length (x .inputs)) (x .witnesses))
+
+abbrev outputMomentRows : Contents → List (List ℕ)
+outputMomentRows x = beside (placed outputBytes outputMoments (outputsAt x) (x .outputs)) (allOutputWitnessMoments (witnessesAt x) (length (x .outputs)) (x .witnesses))
+
+abbrev itemMomentRows : Contents → List (List ℕ)
+itemMomentRows x = allItemMoments (witnessesAt x) (x .witnesses)
+
+placed-inputs-alike : (x : Contents) → Alike (placed inputBytes inputMoments (inputsAt x) (x .inputs)) (placed inputBytes inputColumns (inputsAt x) (x .inputs))
+placed-inputs-alike x = alike-placed inputBytes inputMoments inputColumns input-alike (inputsAt x) (x .inputs)
+
+placed-outputs-alike : (x : Contents) → Alike (placed outputBytes outputMoments (outputsAt x) (x .outputs)) (placed outputBytes outputColumns (outputsAt x) (x .outputs))
+placed-outputs-alike x = alike-placed outputBytes outputMoments outputColumns (λ at y. refl) (outputsAt x) (x .outputs)
+
+input-rows-alike : (x : Contents) → Alike (inputMomentRows x) (inputRows x)
+input-rows-alike x = alike-beside (placed inputBytes inputMoments (inputsAt x) (x .inputs)) (placed inputBytes inputColumns (inputsAt x) (x .inputs)) _ _ (placed-inputs-alike x) (input-witness-alike (witnessesAt x) (length (x .inputs)) (x .witnesses))
+
+output-rows-alike : (x : Contents) → Alike (outputMomentRows x) (outputRows x)
+output-rows-alike x = alike-beside (placed outputBytes outputMoments (outputsAt x) (x .outputs)) (placed outputBytes outputColumns (outputsAt x) (x .outputs)) _ _ (placed-outputs-alike x) (output-witness-alike (witnessesAt x) (length (x .outputs)) (x .witnesses))
+
+item-rows-alike : (x : Contents) → Alike (itemMomentRows x) (itemRows x)
+item-rows-alike x = all-items-alike (witnessesAt x) (x .witnesses)
+
+-- a number's moment stands where the number stands
+pub moments-beside : (t : Table) (z : Sizes) (x : Contents) → length (tableOf t (momentsOf z x)) ≡ length (tableOf t (tablesOf z x))
+moments-beside input z x = alike-table (z .inputs) (inputMomentRows x) (inputRows x) (input-rows-alike x)
+moments-beside output z x = alike-table (z .outputs) (outputMomentRows x) (outputRows x) (output-rows-alike x)
+moments-beside item z x = alike-table (z .items) (itemMomentRows x) (itemRows x) (item-rows-alike x)
+
+module _ (now : ℕ → Bool) (x : Contents) where
+  input-rows-kept : beside (placed inputBytes (keptInput now) (inputsAt x) (x .inputs)) (keptRows now (allInputWitnessMoments (witnessesAt x) (length (x .inputs)) (x .witnesses)) (inputWitnessRecords (witnessesAt x) (length (x .inputs)) (x .witnesses))) ≡ keptRows now (inputMomentRows x) (inputRows x)
+  input-rows-kept =
+      ap (λ (rows : List (List ℕ)). beside rows (keptRows now (allInputWitnessMoments (witnessesAt x) (length (x .inputs)) (x .witnesses)) (inputWitnessRecords (witnessesAt x) (length (x .inputs)) (x .witnesses)))) (kept-placed now inputBytes inputMoments inputColumns (inputsAt x) (x .inputs))
+      ∙ sym (rows-beside now (placed inputBytes inputMoments (inputsAt x) (x .inputs)) (placed inputBytes inputColumns (inputsAt x) (x .inputs)) _ _ (placed-inputs-alike x))
+
+  output-rows-kept : beside (placed outputBytes (keptOutput now) (outputsAt x) (x .outputs)) (keptRows now (allOutputWitnessMoments (witnessesAt x) (length (x .outputs)) (x .witnesses)) (outputWitnessRecords (witnessesAt x) (length (x .outputs)) (x .witnesses))) ≡ keptRows now (outputMomentRows x) (outputRows x)
+  output-rows-kept =
+      ap (λ (rows : List (List ℕ)). beside rows (keptRows now (allOutputWitnessMoments (witnessesAt x) (length (x .outputs)) (x .witnesses)) (outputWitnessRecords (witnessesAt x) (length (x .outputs)) (x .witnesses)))) (kept-placed now outputBytes outputMoments outputColumns (outputsAt x) (x .outputs))
+      ∙ sym (rows-beside now (placed outputBytes outputMoments (outputsAt x) (x .outputs)) (placed outputBytes outputColumns (outputsAt x) (x .outputs)) _ _ (placed-outputs-alike x))
+
 module _ (x : Contents) (g : MaybeAllowed (length (x .inputs)) (length (x .outputs)) (x .witnesses)) where
   pub input-rows-wide : Wide 20 (inputRows x)
   input-rows-wide = beside-wide 13 7 (placed inputBytes inputColumns (inputsAt x) (x .inputs)) (inputWitnessRecords (witnessesAt x) (length (x .inputs)) (x .witnesses)) (placed-wide inputBytes inputColumns 13 input-long (inputsAt x) (x .inputs)) (input-witness-wide (witnessesAt x) (length (x .inputs)) (x .witnesses))
@@ -683,13 +640,23 @@ module _ (x : Contents) (g : MaybeAllowed (length (x .inputs)) (length (x .outpu
       let placed-long = placed-length outputBytes outputColumns (outputsAt x) (x .outputs) in
       beside-length (placed outputBytes outputColumns (outputsAt x) (x .outputs)) (outputWitnessRecords (witnessesAt x) (length (x .outputs)) (x .witnesses)) (output-witness-length (witnessesAt x) (length (x .outputs)) (length (x .inputs)) (x .witnesses) g ∙ sym placed-long) ∙ placed-long
 
+  -- what is entered by now makes the records with what has come
+  pub laid-kept : (now : ℕ → Bool) (z : Sizes) → Fits (roomOf z) x → laid (entered now (wholeTimed 0 x)) (zeros z) ≡ keptIn now (momentsOf z x) (tablesOf z x)
+  laid-kept now z fits =
+      let es = wholeTimed 0 x in
+      let a = rows-long now (inputMomentRows x) (inputRows x) (input-rows-alike x) ∙ flat-wide 20 (inputRows x) input-rows-wide ∙ ap (λ (n : ℕ). 20 * n) input-rows-length in
+      let b = rows-long now (outputMomentRows x) (outputRows x) (output-rows-alike x) ∙ flat-wide 14 (outputRows x) output-rows-wide ∙ ap (λ (n : ℕ). 14 * n) output-rows-length in
+      let c = rows-long now (itemMomentRows x) (itemRows x) (item-rows-alike x) ∙ flat-wide 2 (itemRows x) (all-items-wide (witnessesAt x) (x .witnesses)) ∙ ap (λ (n : ℕ). 2 * n) (all-items-length (witnessesAt x) (x .witnesses)) in
+      let i = filled now input es (z .inputs) (20 * length (x .inputs)) (keptRows now (inputMomentRows x) (inputRows x)) (omega (arith, fits .inputs)) a (λ behind. input-table now x (x .witnesses) g behind ∙ ap (λ (rows : List (List ℕ)). flat (λ r. r) rows ++ behind) (input-rows-kept now x)) ∙ sym (rows-table now (z .inputs) (inputMomentRows x) (inputRows x) (input-rows-alike x)) in
+      let o = filled now output es (z .outputs) (14 * length (x .outputs)) (keptRows now (outputMomentRows x) (outputRows x)) (omega (arith, fits .outputs)) b (λ behind. output-table now x (x .witnesses) g behind ∙ ap (λ (rows : List (List ℕ)). flat (λ r. r) rows ++ behind) (output-rows-kept now x)) ∙ sym (rows-table now (z .outputs) (outputMomentRows x) (outputRows x) (output-rows-alike x)) in
+      let n = filled now item es (z .items) (2 * itemCount (x .witnesses)) (keptRows now (itemMomentRows x) (itemRows x)) (omega (arith, fits .items)) c (item-table now x (x .witnesses)) ∙ sym (rows-table now (z .items) (itemMomentRows x) (itemRows x) (item-rows-alike x)) in
+      laid-tables now es (zeros z) ∙ λ j. record { inputs = i j; outputs = o j; items = n j }
+
+  -- of the whole log, all
   pub laid-whole : (z : Sizes) → Fits (roomOf z) x → laid (wholeLog (roomOf z) 0 x) (zeros z) ≡ tablesOf z x
   laid-whole z fits =
-      let room = roomOf z in
-      let a = flat-wide 20 (inputRows x) input-rows-wide ∙ ap (λ (n : ℕ). 20 * n) input-rows-length in
-      let b = flat-wide 14 (outputRows x) output-rows-wide ∙ ap (λ (n : ℕ). 14 * n) output-rows-length in
-      let c = flat-wide 2 (itemRows x) (all-items-wide (witnessesAt x) (x .witnesses)) ∙ ap (λ (n : ℕ). 2 * n) (all-items-length (witnessesAt x) (x .witnesses)) in
-      let i = filled input (wholeLog room 0 x) (z .inputs) (20 * length (x .inputs)) (inputRows x) (omega (arith, fits .inputs)) a (input-table room x (x .witnesses) g) in
-      let o = filled output (wholeLog room 0 x) (z .outputs) (14 * length (x .outputs)) (outputRows x) (omega (arith, fits .outputs)) b (output-table room x (x .witnesses) g) in
-      let n = filled item (wholeLog room 0 x) (z .items) (2 * itemCount (x .witnesses)) (itemRows x) (omega (arith, fits .items)) c (item-table room x (x .witnesses)) in
-      laid-tables (wholeLog room 0 x) (zeros z) ∙ λ j. record { inputs = i j; outputs = o j; items = n j }
+      let always : ℕ → Bool = λ m. true in
+      let all : (t : Table) → kept always (tableOf t (momentsOf z x)) (tableOf t (tablesOf z x)) ≡ tableOf t (tablesOf z x) = λ t. kept-all always (λ m. refl) (tableOf t (momentsOf z x)) (tableOf t (tablesOf z x)) (moments-beside t z x) in
+      ap (λ (es : List Entry). laid es (zeros z)) (sym (whole-log (roomOf z) 0 x))
+      ∙ laid-kept always z fits
+      ∙ λ j. record { inputs = all input j; outputs = all output j; items = all item j }

@@ -6,6 +6,7 @@
 --     bearing-bytes   which bytes of that one are bearing, and bearing-cut of cut ones
 --     edges, limits   loads that pin one rule each: what is refused first, what a table holds so far, where the limits lie
 --     locktime-ends, locktime-limit   the locktime at the limit, of whole transactions of 4,000,000 bytes
+--     behind-long     positions behind a script of 65,536 bytes; no-sooner, witness-limit: the limit behind an input's script
 use Prim.Native.Nat.{ℕ, zero, suc, _+_, _-_, _*_, _^_}
 use Prim.Native.Char.{code}
 use Prim.Native.String.{String, [] as nothing, _∷_ as _then_}
@@ -15,11 +16,11 @@ use mathlib.Core.List.{List, [], _∷_, _++_, map}
 use lib.Dec.{ltb, eqb}
 use lib.ListN.{length, replicate, drop, getD}
 use Rattle.layout.specs.Number.{little, value}
-use Rattle.layout.specs.Layout.{Layout, number, opaque, refuse, Answer, finished, more, refused, accept, input, output, scriptBody, assetPart, run, Reading, reading, behind, hides}
+use Rattle.layout.specs.Layout.{Layout, number, opaque, enter, refuse, Answer, finished, more, refused, accept, input, output, scriptBody, assetPart, run, Reading, reading, behind, hides}
 use Rattle.layout.specs.Transaction.{Head, transaction, entry, assetPrefix, seen, allOnes, flagBit, vout, flags}
 use Rattle.layout.specs.Transaction.{within, furtherAt, numberAt, opaqueAt, compactAt, countAt, bodyAt, valueAt, prefixedAt, each}
 use Rattle.layout.specs.Transaction.{issuanceAt, inputAt, outputAt, itemAt, stackAt, inputWitnessAt, outputWitnessAt}
-use Rattle.layout.specs.Outcome.{Sizes, Tables, Outcome, zeros, laid, readingOf, partial, atOnce, strict, bears, roomOf}
+use Rattle.layout.specs.Outcome.{Sizes, Tables, Outcome, zeros, laid, outcome, readingOf, partial, atOnce, strict, bears, roomOf}
 use Rattle.layout.proofs.Reading.{rest, chain, cut}
 use Rattle.layout.proofs.Codes.{field-run}
 
@@ -724,3 +725,44 @@ locktime-limit script ys e =
     ap (λ (r : Reading Head). answers (r .answer) (r .taken))
     (cut (transaction (roomOf one)) (toScript "feee083d00") (script ++ ys)
     ∙ ap (chain (readingOf one (toScript "feee083d00"))) (scripted 3999982 (refuse 2 3999997) script ys e))
+
+-- Behind a script of 65,536 bytes, whatever they are: positions of null prefixes, empty bodies and an empty item go on counting from the
+-- transaction's first byte. The script stands at 47, the sequence at 65,583, the output at 65,588, the witnesses at 65,596.
+abbrev toLong : List ℕ
+toLong = hex "02000000 01 01" ++ hidden 32 ++ hex "00000000 fe00000100"
+
+abbrev behindLong : List ℕ
+behindLong = hex "ffffffff 01 00 00 00 00 00000000 00 00 01 00 00 00 00"
+
+abbrev pastBody : Layout Head → Layout Head
+pastBody (opaque h w l) = l
+pastBody (number o w k) = refuse 0 0
+pastBody (enter e l) = refuse 0 0
+pastBody (refuse n p) = refuse n p
+pastBody (accept h) = refuse 0 0
+
+behind-long : (script : List ℕ) → length script ≡ 65536 → partial one (toLong ++ (script ++ behindLong)) ≡ record { answer = finished (head 2 1 1 1 1 0 65603); taken = 65603; tables = record { inputs = 6 ∷ 0 ∷ 0 ∷ 47 ∷ 65536 ∷ 4294967295 ∷ 0 ∷ 0 ∷ 0 ∷ 0 ∷ 0 ∷ 0 ∷ 0 ∷ 65597 ∷ 0 ∷ 65598 ∷ 0 ∷ 0 ∷ 1 ∷ 0 ∷ []; outputs = 0 ∷ 65588 ∷ 0 ∷ 65589 ∷ 0 ∷ 0 ∷ 0 ∷ 65590 ∷ 65592 ∷ 0 ∷ 65602 ∷ 0 ∷ 65603 ∷ 0 ∷ []; items = 65600 ∷ 0 ∷ [] } }
+unfolding computes rest
+behind-long script e =
+    ap (outcome one)
+    (cut (transaction (roomOf one)) toLong (script ++ behindLong)
+    ∙ ap (chain (readingOf one toLong)) (scripted 65536 (pastBody (rest (transaction (roomOf one)) toLong)) script behindLong e))
+
+-- The limit behind an input's script, whatever its bytes: with no outputs, the locktime is refused at its own start, 3,999,997, and not sooner, at
+-- the count before it; and where it ends at 4,000,000 the first witness is refused, at its length's start.
+abbrev toInput : String → String → List ℕ
+toInput flag long = hex "02000000" ++ hex flag ++ hex "01" ++ hidden 32 ++ hex "00000000 fe" ++ hex long
+
+no-sooner : (script : List ℕ) → length script ≡ 3999945 → answerIn one (toInput "00" "c9083d00" ++ (script ++ hex "ffffffff 00")) ≡ answers (refused 2 3999997) 3999997
+unfolding computes rest
+no-sooner script e =
+    ap (λ (r : Reading Head). answers (r .answer) (r .taken))
+    (cut (transaction (roomOf one)) (toInput "00" "c9083d00") (script ++ hex "ffffffff 00")
+    ∙ ap (chain (readingOf one (toInput "00" "c9083d00"))) (scripted 3999945 (pastBody (rest (transaction (roomOf one)) (toInput "00" "c9083d00"))) script (hex "ffffffff 00") e))
+
+witness-limit : (script : List ℕ) → length script ≡ 3999944 → answerIn one (toInput "01" "c8083d00" ++ (script ++ hex "ffffffff 00 00000000")) ≡ answers (refused 2 4000000) 4000000
+unfolding computes rest
+witness-limit script e =
+    ap (λ (r : Reading Head). answers (r .answer) (r .taken))
+    (cut (transaction (roomOf one)) (toInput "01" "c8083d00") (script ++ hex "ffffffff 00 00000000")
+    ∙ ap (chain (readingOf one (toInput "01" "c8083d00"))) (scripted 3999944 (pastBody (rest (transaction (roomOf one)) (toInput "01" "c8083d00"))) script (hex "ffffffff 00 00000000") e))

@@ -118,3 +118,9 @@ pub bytes-value : (o : Order) (w : ℕ) (xs : List ℕ) → Bytes xs → length 
 bytes-value o w xs h e =
     let small : value o xs < 256 ^ w = subst (λ (n : ℕ). value o xs < 256 ^ n) e (value-bound o xs h) in
     value-injective o (bytesOf o w (value o xs)) xs (bytes-bytes o w (value o xs)) h (length-bytes o w (value o xs) ∙ sym e) (value-bytes o w (value o xs) small)
+
+-- one byte is its own value: with value-append this fixes what a number's bytes are worth, in either order
+pub value-one : (o : Order) (b : ℕ) → value o (b ∷ []) ≡ b
+unfolding value
+value-one little b = omega arith
+value-one big b = omega arith

@@ -89,3 +89,8 @@ issuing raw =
     (by-cases (eqb (raw / 2 ^ 31 % 2) 1)
     (λ e. e ∙ sym (le-leb 2 (raw / 2 ^ 30 % 2 + 2 * (raw / 2 ^ 31 % 2)) (omega (arith, eqb-true (raw / 2 ^ 31 % 2) 1 e))))
     (λ e. e ∙ sym (lt-leb 2 (raw / 2 ^ 30 % 2 + 2 * (raw / 2 ^ 31 % 2)) (omega (arith, eqb-false (raw / 2 ^ 31 % 2) 1 e))))))
+
+-- Bit 30 is the pegin flag, bit 31 the issuance flag, and both are cleared in vout: in plain arithmetic, of every raw vout but 0xffffffff.
+pub raw-is : (raw : ℕ) → raw < 2 ^ 32 → (raw ≡ 4294967295 → ⊥) → (vout raw + 2 ^ 30 * flagBit 30 raw + 2 ^ 31 * flagBit 31 raw ≡ raw) × (vout raw < 2 ^ 30) × (flagBit 30 raw < 2) × (flagBit 31 raw < 2) × (flags raw ≡ flagBit 30 raw + 2 * flagBit 31 raw)
+unfolding vout flags flagBit allOnes
+raw-is raw h others = rw (ne-eqb raw 0xffff_ffff others) (omega arith, omega arith, omega arith, omega arith, refl)

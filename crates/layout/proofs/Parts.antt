@@ -8,7 +8,7 @@ use native.Mathlib.Nat.{add-assoc, add-zero, zero-add}
 use native.Mathlib.Omega.{arith}
 use lib.Dec.{leb, ltb, eqb, lit<}
 use lib.ListN.{length, take, drop, getD, length-append, take-append-drop}
-use lib.Seq.{length-take-le}
+use lib.Seq.{length-take-le, append-snoc}
 use borrow.Author.Tests.{leb-true, leb-false, le-leb, lt-leb, eqb-true, eqb-false, eq-eqb, ne-eqb}
 use Rattle.layout.specs.Number.{Order, little, big, value, bytesOf, Bytes}
 use Rattle.layout.specs.Layout.{Layout, number, opaque, enter, refuse, accept, Answer, finished, more, refused, Reading, reading, behind, noted, Entry, Table, input, output, item, Hidden, txid, blindingNonce, entropy, assetPart, noncePart, commitmentPart, scriptBody, proofBody, itemBody, run}
@@ -17,8 +17,9 @@ use Rattle.layout.specs.Contents.{Value, null, explicit, commitment, Tok
 use Rattle.layout.specs.Records.{valuePrefix, tokenPrefix, high, low}
 use Rattle.layout.proofs.Number.{length-bytes, bytes-bytes, value-bytes, bytes-value, bytes-take, bytes-drop, value-small}
 use Rattle.layout.proofs.Reading.{by-cases, refused-not-finished}
+use Rattle.layout.proofs.Trace.{Event, shown, enters, entering, looked, passed, trace}
 use Rattle.layout.proofs.Outpoint.{true-not-false, raw-small, raw-vout, raw-flags, raw-again, raw-apart, flags-three, issuing}
-use Rattle.layout.proofs.Codes.{Part, after, Finishes, Began, Codes, then, noting, passing, failing, seen-as, began-as, handing, all-codes, logAll, list-codes, if-true, if-false, empty-codes, refuse-codes, GoodEach, logEach, nextEach, each-codes, within-run, within-back, field-run, field-back, number-codes, opaque-codes, bytes-behind}
+use Rattle.layout.proofs.Codes.{Part, after, Finishes, Began, Codes, then, noting, passing, failing, seen-as, began-as, handing, all-codes, logAll, eventsAll, list-codes, if-true, if-false, empty-codes, refuse-codes, GoodEach, logEach, nextEach, each-codes, within-run, within-back, field-run, field-traced, field-back, number-codes, opaque-codes, bytes-behind}
 
 -- ---- counts and lengths
 
@@ -27,7 +28,7 @@ unfolding bytesOf
 one-byte f h = ap (λ (n : ℕ). n ∷ []) (omega arith)
 
 -- what a first byte above 252 announces is the shortest form of what is not below its least
-compact-form : (f n : ℕ) → 252 < f → f < 256 → least (announced f) ≤ n → n < 256 ^ announced f → compactBytes n ≡ f ∷ bytesOf little (announced f) n
+pub compact-form : (f n : ℕ) → 252 < f → f < 256 → least (announced f) ≤ n → n < 256 ^ announced f → compactBytes n ≡ f ∷ bytesOf little (announced f) n
 unfolding compactBytes
 compact-form f n above byte at-least small =
     by-cases (eqb f 253)
@@ -46,10 +47,10 @@ compact-form f n above byte at-least small =
 abbrev Furthered : ℕ → (ℕ → ℕ → Layout Head) → ℕ → ℕ → Layout Head
 Furthered at k first at′ = cond (leb first 252) (k first at′) (furtherAt at at′ little (announced first) λ n at″. cond (leb (least (announced first)) n) (k n at″) (refuse 3 at))
 
-first-codes : Codes (λ at k. numberAt at little 1 k) (λ v. v < 256 ^ 1) (bytesOf little 1) (λ at v. []) (λ v. v)
+first-codes : Codes (λ at k. numberAt at little 1 k) (λ v. v < 256 ^ 1) (bytesOf little 1) (λ at v. []) (λ at v. looked (bytesOf little 1 v)) (λ v. v)
 first-codes = number-codes (λ at. at) little 1
 
-further-codes : (start f : ℕ) → Codes (λ at k. furtherAt start at little (announced f) λ n at′. cond (leb (least (announced f)) n) (k n at′) (refuse 3 start)) (λ n. (n < 256 ^ announced f) × (leb (least (announced f)) n ≡ true)) (bytesOf little (announced f)) (λ at n. []) (λ n. n)
+further-codes : (start f : ℕ) → Codes (λ at k. furtherAt start at little (announced f) λ n at′. cond (leb (least (announced f)) n) (k n at′) (refuse 3 start)) (λ n. (n < 256 ^ announced f) × (leb (least (announced f)) n ≡ true)) (bytesOf little (announced f)) (λ at n. []) (λ at n. looked (bytesOf little (announced f) n)) (λ n. n)
 further-codes start f = passing (λ n. leb (least (announced f)) n) 3 (λ at. start) (number-codes (λ at. start) little (announced f))
 
 short-forth : (n : ℕ) → n ≤ 252 → (at : ℕ) (k : ℕ → ℕ → Layout Head) (ys : List ℕ) → at + 1 ≤ limit → run (compactAt at k) ((n ∷ []) ++ ys) ≡ after 1 [] (run (k n (at + 1)) ys)
@@ -77,7 +78,7 @@ long-forth f n above byte at-least small at k ys e =
     ∙ ap₂ (λ (m p : ℕ). after 1 [] (after m [] (run (k n p) ys))) long (ap (λ (m : ℕ). at + 1 + m) long ∙ ends)
     ∙ (let r = run (k n (at + suc w)) ys in ap (λ (m : ℕ). reading (r .answer) m (r .log)) (omega arith))
 
-short-form : (n : ℕ) → n ≤ 252 → compactBytes n ≡ n ∷ []
+pub short-form : (n : ℕ) → n ≤ 252 → compactBytes n ≡ n ∷ []
 unfolding compactBytes
 short-form n h = rw (le-leb n 252 h)
 
@@ -90,29 +91,66 @@ announced-fits f n h =
     (λ e′. let s = subst (λ (t : Bool). n < 256 ^ cond t 4 8) e′ (subst (λ (t : Bool). n < 256 ^ cond t 2 (cond (eqb f 254) 4 8)) e h) in omega arith))
 
 -- the four forms
-Forth : ℕ → List ℕ → ℕ → (ℕ → ℕ → Layout Head) → List ℕ → Type 0
-Forth n bs at k ys = at + length bs ≤ limit → run (compactAt at k) (bs ++ ys) ≡ after (length bs) [] (run (k n (at + length bs)) ys)
+forms : (P : List ℕ → Type 0) (n : ℕ) → n < 2 ^ 64 → (n ≤ 252 → P (n ∷ [])) → ((f : ℕ) → 252 < f → f < 256 → least (announced f) ≤ n → n < 256 ^ announced f → P (f ∷ bytesOf little (announced f) n)) → P (compactBytes n)
+forms P n g short long =
+    by-cases (leb n 252)
+    (λ e. subst P (sym (short-form n (leb-true n 252 e))) (short (leb-true n 252 e)))
+    (λ e. by-cases (leb n 65535)
+    (λ e′. by-first 253 (lit< tt) (lit< tt) (omega (arith, leb-false n 252 e)) (omega (arith, leb-true n 65535 e′)))
+    (λ e′. by-cases (leb n 4294967295)
+    (λ e″. by-first 254 (lit< tt) (lit< tt) (omega (arith, leb-false n 65535 e′)) (omega (arith, leb-true n 4294967295 e″)))
+    (λ e″. by-first 255 (lit< tt) (lit< tt) (omega (arith, leb-false n 4294967295 e″)) (omega arith))))
+  where
+    by-first : (f : ℕ) → 252 < f → f < 256 → least (announced f) ≤ n → n < 256 ^ announced f → P (compactBytes n)
+    by-first f above byte at-least small = subst P (sym (compact-form f n above byte at-least small)) (long f above byte at-least small)
 
-long-form : (f n : ℕ) → 252 < f → f < 256 → least (announced f) ≤ n → n < 256 ^ announced f → (at : ℕ) (k : ℕ → ℕ → Layout Head) (ys : List ℕ) → Forth n (compactBytes n) at k ys
-unfolding Forth
-long-form f n above byte at-least small at k ys =
-    let long : length (bytesOf little (announced f) n) ≡ announced f = length-bytes little (announced f) n in
-    subst (λ (bs : List ℕ). Forth n bs at k ys) (sym (compact-form f n above byte at-least small))
-    (λ h. subst (λ (m : ℕ). at + suc m ≤ limit → run (compactAt at k) ((f ∷ bytesOf little (announced f) n) ++ ys) ≡ after (suc m) [] (run (k n (at + suc m)) ys)) (sym long) (long-forth f n above byte at-least small at k ys) h)
+Forth : ℕ → (ℕ → ℕ → Layout Head) → List ℕ → ℕ → List ℕ → Type 0
+Forth at k ys n bs = at + length bs ≤ limit → run (compactAt at k) (bs ++ ys) ≡ after (length bs) [] (run (k n (at + length bs)) ys)
 
-compact-forth : (n : ℕ) → n < 2 ^ 64 → (at : ℕ) (k : ℕ → ℕ → Layout Head) (ys : List ℕ) → Forth n (compactBytes n) at k ys
+compact-forth : (n : ℕ) → n < 2 ^ 64 → (at : ℕ) (k : ℕ → ℕ → Layout Head) (ys : List ℕ) → Forth at k ys n (compactBytes n)
 unfolding Forth
 compact-forth n g at k ys =
-    by-cases (leb n 252)
-    (λ e. subst (λ (bs : List ℕ). Forth n bs at k ys) (sym (short-form n (leb-true n 252 e))) (short-forth n (leb-true n 252 e) at k ys))
-    (λ e. by-cases (leb n 65535)
-    (λ e′. long-form 253 n (lit< tt) (lit< tt) (omega (arith, leb-false n 252 e)) (omega (arith, leb-true n 65535 e′)) at k ys)
-    (λ e′. by-cases (leb n 4294967295)
-    (λ e″. long-form 254 n (lit< tt) (lit< tt) (omega (arith, leb-false n 65535 e′)) (omega (arith, leb-true n 4294967295 e″)) at k ys)
-    (λ e″. long-form 255 n (lit< tt) (lit< tt) (omega (arith, leb-false n 4294967295 e″)) (omega arith) at k ys)))
+    forms (Forth at k ys n) n g (λ h. short-forth n h at k ys)
+    (λ f above byte at-least small.
+    subst (λ (m : ℕ). at + suc m ≤ limit → run (compactAt at k) ((f ∷ bytesOf little (announced f) n) ++ ys) ≡ after (suc m) [] (run (k n (at + suc m)) ys)) (sym (length-bytes little (announced f) n)) (long-forth f n above byte at-least small at k ys))
 
-pub compact-codes : Codes (λ at k. compactAt at k) (λ n. n < 2 ^ 64) compactBytes (λ at n. []) (λ n. n)
-unfolding compactAt Forth
+-- the same of the trace
+short-traced : (n : ℕ) → n ≤ 252 → (at : ℕ) (k : ℕ → ℕ → Layout Head) (ys : List ℕ) → at + 1 ≤ limit → trace (compactAt at k) ((n ∷ []) ++ ys) ≡ shown n ∷ trace (k n (at + 1)) ys
+unfolding compactAt
+short-traced n h at k ys e =
+    let b = one-byte n (omega arith) in
+    ap (λ (l : List ℕ). trace (compactAt at k) (l ++ ys)) (sym b)
+    ∙ first-codes .traced n (omega arith) at (Furthered at k) ys (omega (arith, ap (λ (l : List ℕ). length l) b))
+    ∙ ap (λ (l : List ℕ). looked l ++ trace (Furthered at k n (at + length l)) ys) b
+    ∙ ap (λ (t : Bool). shown n ∷ trace (cond t (k n (at + 1)) (furtherAt at (at + 1) little (announced n) λ m at″. cond (leb (least (announced n)) m) (k m at″) (refuse 3 at))) ys) (le-leb n 252 h)
+
+long-traced : (f n : ℕ) → 252 < f → f < 256 → least (announced f) ≤ n → n < 256 ^ announced f → (at : ℕ) (k : ℕ → ℕ → Layout Head) (ys : List ℕ) → at + suc (announced f) ≤ limit → trace (compactAt at k) ((f ∷ bytesOf little (announced f) n) ++ ys) ≡ looked (f ∷ bytesOf little (announced f) n) ++ trace (k n (at + suc (announced f))) ys
+unfolding compactAt
+long-traced f n above byte at-least small at k ys e =
+    let b = one-byte f byte in
+    let w = announced f in
+    let bs = bytesOf little w n in
+    let long : length bs ≡ w = length-bytes little w n in
+    let ends : at + 1 + w ≡ at + suc w = omega arith in
+    ap (λ (l : List ℕ). trace (compactAt at k) (l ++ (bs ++ ys))) (sym b)
+    ∙ first-codes .traced f (omega arith) at (Furthered at k) (bs ++ ys) (omega (arith, ap (λ (l : List ℕ). length l) b))
+    ∙ ap (λ (l : List ℕ). looked l ++ trace (Furthered at k f (at + length l)) (bs ++ ys)) b
+    ∙ ap (λ (t : Bool). shown f ∷ trace (cond t (k f (at + 1)) (furtherAt at (at + 1) little w λ m at″. cond (leb (least w) m) (k m at″) (refuse 3 at))) (bs ++ ys)) (lt-leb f 252 above)
+    ∙ ap (λ (t : List Event). shown f ∷ t) (further-codes at f .traced n (small, le-leb (least w) n at-least) (at + 1) k ys (omega arith))
+    ∙ ap (λ (p : ℕ). looked (f ∷ bs) ++ trace (k n p) ys) (ap (λ (m : ℕ). at + 1 + m) long ∙ ends)
+
+Traced : ℕ → (ℕ → ℕ → Layout Head) → List ℕ → ℕ → List ℕ → Type 0
+Traced at k ys n bs = at + length bs ≤ limit → trace (compactAt at k) (bs ++ ys) ≡ looked bs ++ trace (k n (at + length bs)) ys
+
+compact-traced : (n : ℕ) → n < 2 ^ 64 → (at : ℕ) (k : ℕ → ℕ → Layout Head) (ys : List ℕ) → Traced at k ys n (compactBytes n)
+unfolding Traced
+compact-traced n g at k ys =
+    forms (Traced at k ys n) n g (λ h. short-traced n h at k ys)
+    (λ f above byte at-least small.
+    subst (λ (m : ℕ). at + suc m ≤ limit → trace (compactAt at k) ((f ∷ bytesOf little (announced f) n) ++ ys) ≡ looked (f ∷ bytesOf little (announced f) n) ++ trace (k n (at + suc m)) ys) (sym (length-bytes little (announced f) n)) (long-traced f n above byte at-least small at k ys))
+
+pub compact-codes : Codes (λ at k. compactAt at k) (λ n. n < 2 ^ 64) compactBytes (λ at n. []) (λ at n. looked (compactBytes n)) (λ n. n)
+unfolding compactAt Forth Traced
 compact-codes =
     record {
       forth = λ n g at k ys h. compact-forth n g at k ys h;
@@ -151,10 +189,11 @@ compact-codes =
             ends = subst (λ (l : List ℕ). at + length l ≤ limit) (sym form) (subst (λ (m : ℕ). m ≤ limit) long (v .ends));
             goes = subst (λ (l : List ℕ). Finishes (k n (at + length l)) (v .rest) a) (sym form) (subst (λ (m : ℕ). Finishes (k n m) (v .rest) a) long (v .goes));
           });
+      traced = λ n g at k ys h. compact-traced n g at k ys h;
     }
 
 -- Count: not above the records left.
-pub count-codes : (left : ℕ) → Codes (λ at k. countAt at left k) (λ n. (n < 2 ^ 64) × (leb n left ≡ true)) compactBytes (λ at n. []) (λ n. n)
+pub count-codes : (left : ℕ) → Codes (λ at k. countAt at left k) (λ n. (n < 2 ^ 64) × (leb n left ≡ true)) compactBytes (λ at n. []) (λ at n. looked (compactBytes n)) (λ n. n)
 unfolding countAt
 count-codes left = passing (λ n. leb n left) 4 (λ at. at) compact-codes
 
@@ -163,8 +202,12 @@ count-codes left = passing (λ n. leb n left) 4 (λ at. at) compact-codes
 abbrev pub bodyLog : (ℕ → ℕ → Entry) → ℕ → List ℕ → List Entry
 bodyLog note at xs = note (at + length (compactBytes (length xs))) (length xs) ∷ []
 
-pub body-codes : (h : Hidden) (note : ℕ → ℕ → Entry) → Codes (λ at k. bodyAt at h note k) Bytes bodyBytes (bodyLog note) (λ xs. length xs)
-unfolding bodyAt bodyBytes run
+-- its length is looked at, and entered; its bytes never are
+abbrev pub bodyEvents : (ℕ → ℕ → Entry) → ℕ → List ℕ → List Event
+bodyEvents note at xs = looked (compactBytes (length xs)) ++ (enters (note (at + length (compactBytes (length xs))) (length xs)) ∷ passed xs)
+
+pub body-codes : (h : Hidden) (note : ℕ → ℕ → Entry) → Codes (λ at k. bodyAt at h note k) Bytes bodyBytes (bodyLog note) (bodyEvents note) (λ xs. length xs)
+unfolding bodyAt bodyBytes run trace
 body-codes hid note =
     record {
       forth = λ xs g at k ys h.
@@ -200,11 +243,23 @@ body-codes hid note =
             ends = subst (λ (m : ℕ). m ≤ limit) e (in-limit .0);
             goes = subst (λ (m : ℕ). Finishes (k (length x) m) (drop n (u .rest)) a) e (subst (λ (m : ℕ). Finishes (k m (at′ + n)) (drop n (u .rest)) a) long (there .1));
           };
+      traced = λ xs g at k ys h.
+          let n = length xs in
+          let c = compactBytes n in
+          let both : length (c ++ xs) ≡ length c + n = length-append c xs in
+          let go : ℕ → ℕ → Layout Head = λ n at′. within at (at′ + n) (enter (note at′ n) (opaque hid n (k n (at′ + n)))) in
+          let e : at + length c + n ≡ at + length (c ++ xs) = omega arith in
+          ap (trace (compactAt at go)) (append-assoc c xs ys)
+          ∙ compact-codes .traced n (omega arith) at go (xs ++ ys) (omega arith)
+          ∙ ap (λ (l : Layout Head). looked c ++ trace l (xs ++ ys)) (within-run at (at + length c + n) (enter (note (at + length c) n) (opaque hid n (k n (at + length c + n)))) (omega arith))
+          ∙ ap (λ (t : List Event). looked c ++ (enters (note (at + length c) n) ∷ t)) (field-traced true n (λ _. k n (at + length c + n)) xs ys refl)
+          ∙ sym (append-assoc (looked c) (enters (note (at + length c) n) ∷ passed xs) (trace (k n (at + length c + n)) ys))
+          ∙ ap (λ (m : ℕ). bodyEvents note at xs ++ trace (k n m) ys) e;
     }
 
 -- ---- prefixes and what stands behind them
 
-prefix-codes : (note : ℕ → ℕ → Entry) → Codes (λ at k. numberAt at little 1 λ p at′. enter (note p at) (k p at′)) (λ p. p < 256 ^ 1) (bytesOf little 1) (λ at p. note p at ∷ []) (λ p. p)
+prefix-codes : (note : ℕ → ℕ → Entry) → Codes (λ at k. numberAt at little 1 λ p at′. enter (note p at) (k p at′)) (λ p. p < 256 ^ 1) (bytesOf little 1) (λ at p. note p at ∷ []) (λ at p. entering (looked (bytesOf little 1 p)) (note p at)) (λ p. p)
 prefix-codes note = noting (λ at p. note p at) first-codes
 
 -- what is listed is none of what isn't
@@ -228,6 +283,11 @@ amountLog amount null = []
 amountLog amount (explicit v) = amount (v / 2 ^ 32) (v % 2 ^ 32) ∷ []
 amountLog amount (commitment p part) = []
 
+abbrev amountEvents : (ℕ → ℕ → Entry) → Value → List Event
+amountEvents amount null = []
+amountEvents amount (explicit v) = entering (looked (bytesOf big 8 v)) (amount (v / 2 ^ 32) (v % 2 ^ 32))
+amountEvents amount (commitment p part) = passed part
+
 abbrev valueTail : (ℕ → ℕ → Entry) → ℕ → ℕ → Part ℕ
 valueTail amount place p at k =
     cond (eqb p 0) (k p at)
@@ -244,19 +304,19 @@ module _ (amount : ℕ → ℕ → Entry) (place p : ℕ) where
   abbrev lastTail : Part ℕ
   lastTail at k = cond (commitmentPrefix p) (partTail at k) (refuse 5 place)
 
-  null-tail : eqb p 0 ≡ true → Codes (valueTail amount place p) (λ (x : Unit {0}). Unit {0}) (λ x. []) (λ at x. []) (λ x. p)
+  null-tail : eqb p 0 ≡ true → Codes (valueTail amount place p) (λ (x : Unit {0}). Unit {0}) (λ x. []) (λ at x. []) (λ at x. []) (λ x. p)
   null-tail e = if-true (eqb p 0) (λ at k. k p at) (λ at k. cond (eqb p 1) (explicitTail at k) (lastTail at k)) e (empty-codes p)
 
-  other-tail : {X : Type 0} {Good : X → Type 0} {bytes : X → List ℕ} {log : ℕ → X → List Entry} {out : X → ℕ} → eqb p 0 ≡ false → Codes (λ at k. cond (eqb p 1) (explicitTail at k) (lastTail at k)) Good bytes log out → Codes (valueTail amount place p) Good bytes log out
+  other-tail : {X : Type 0} {Good : X → Type 0} {bytes : X → List ℕ} {log : ℕ → X → List Entry} {events : ℕ → X → List Event} {out : X → ℕ} → eqb p 0 ≡ false → Codes (λ at k. cond (eqb p 1) (explicitTail at k) (lastTail at k)) Good bytes log events out → Codes (valueTail amount place p) Good bytes log events out
   other-tail e c = if-false (eqb p 0) (λ at k. k p at) (λ at k. cond (eqb p 1) (explicitTail at k) (lastTail at k)) e c
 
-  explicit-tail : eqb p 0 ≡ false → eqb p 1 ≡ true → Codes (valueTail amount place p) (λ v. v < 256 ^ 8) (bytesOf big 8) (λ at v. amount (v / 2 ^ 32) (v % 2 ^ 32) ∷ []) (λ x. p)
+  explicit-tail : eqb p 0 ≡ false → eqb p 1 ≡ true → Codes (valueTail amount place p) (λ v. v < 256 ^ 8) (bytesOf big 8) (λ at v. amount (v / 2 ^ 32) (v % 2 ^ 32) ∷ []) (λ at v. entering (looked (bytesOf big 8 v)) (amount (v / 2 ^ 32) (v % 2 ^ 32))) (λ x. p)
   explicit-tail e₀ e₁ = other-tail e₀ (if-true (eqb p 1) explicitTail lastTail e₁ (handing (λ s. p) (noting (λ at v. amount (v / 2 ^ 32) (v % 2 ^ 32)) (number-codes (λ at. at) big 8))))
 
-  part-tail : eqb p 0 ≡ false → eqb p 1 ≡ false → commitmentPrefix p ≡ true → Codes (valueTail amount place p) (Fixed 32) (λ b. b) (λ at b. []) (λ b. p)
+  part-tail : eqb p 0 ≡ false → eqb p 1 ≡ false → commitmentPrefix p ≡ true → Codes (valueTail amount place p) (Fixed 32) (λ b. b) (λ at b. []) (λ at b. passed b) (λ b. p)
   part-tail e₀ e₁ e₂ = other-tail e₀ (if-false (eqb p 1) explicitTail lastTail e₁ (if-true (commitmentPrefix p) partTail (λ at k. refuse 5 place) e₂ (handing (λ s. p) (opaque-codes commitmentPart 32))))
 
-  no-tail : eqb p 0 ≡ false → eqb p 1 ≡ false → commitmentPrefix p ≡ false → Codes (valueTail amount place p) (λ (x : Unit {0}). ⊥) (λ x. []) (λ at x. []) (λ x. p)
+  no-tail : eqb p 0 ≡ false → eqb p 1 ≡ false → commitmentPrefix p ≡ false → Codes (valueTail amount place p) (λ (x : Unit {0}). ⊥) (λ x. []) (λ at x. []) (λ at x. []) (λ x. p)
   no-tail e₀ e₁ e₂ = other-tail e₀ (if-false (eqb p 1) explicitTail lastTail e₁ (if-false (commitmentPrefix p) partTail (λ at k. refuse 5 place) e₂ (refuse-codes 5 place (λ x g. g))))
 
   -- a value of this prefix
@@ -278,15 +338,24 @@ tail-forth amount place null g = null-tail amount place 0 refl .forth tt tt
 tail-forth amount place (explicit v) g = explicit-tail amount place 1 refl refl .forth v g
 tail-forth amount place (commitment p part) g = part-tail amount place p (listed-other commitmentPrefix p 0 (g .0) refl) (listed-other commitmentPrefix p 1 (g .0) refl) (g .0) .forth part (g .1)
 
-tail-codes : (amount : ℕ → ℕ → Entry) (place p : ℕ) → Codes (valueTail amount place p) (Behind amount place p) tailBytes (λ at v. amountLog amount v) (λ v. p)
+tail-traced : (amount : ℕ → ℕ → Entry) (place : ℕ) (v : Value) → ValueAllowed v → (at : ℕ) (k : ℕ → ℕ → Layout Head) (ys : List ℕ) → at + length (tailBytes v) ≤ limit → trace (valueTail amount place (valuePrefix v) at k) (tailBytes v ++ ys) ≡ amountEvents amount v ++ trace (k (valuePrefix v) (at + length (tailBytes v))) ys
+tail-traced amount place null g = null-tail amount place 0 refl .traced tt tt
+tail-traced amount place (explicit v) g = explicit-tail amount place 1 refl refl .traced v g
+tail-traced amount place (commitment p part) g = part-tail amount place p (listed-other commitmentPrefix p 0 (g .0) refl) (listed-other commitmentPrefix p 1 (g .0) refl) (g .0) .traced part (g .1)
+
+tail-codes : (amount : ℕ → ℕ → Entry) (place p : ℕ) → Codes (valueTail amount place p) (Behind amount place p) tailBytes (λ at v. amountLog amount v) (λ at v. amountEvents amount v) (λ v. p)
 tail-codes amount place p =
     record {
       forth = λ v g at k ys h. subst (λ (q : ℕ). run (valueTail amount place q at k) (tailBytes v ++ ys) ≡ after (length (tailBytes v)) (amountLog amount v) (run (k q (at + length (tailBytes v))) ys)) (g .0) (tail-forth amount place v (g .1) at k ys h);
       back = tail-back amount place p;
+      traced = λ v g at k ys h. subst (λ (q : ℕ). trace (valueTail amount place q at k) (tailBytes v ++ ys) ≡ amountEvents amount v ++ trace (k q (at + length (tailBytes v))) ys) (g .0) (tail-traced amount place v (g .1) at k ys h);
     }
 
 abbrev pub valueLog : (ℕ → ℕ → Entry) → (ℕ → ℕ → Entry) → ℕ → Value → List Entry
 valueLog note amount at v = note (valuePrefix v) at ∷ amountLog amount v
+
+abbrev pub valueEvents : (ℕ → ℕ → Entry) → (ℕ → ℕ → Entry) → ℕ → Value → List Event
+valueEvents note amount at v = shown (valuePrefix v) ∷ enters (note (valuePrefix v) at) ∷ amountEvents amount v
 
 prefix-small : (v : Value) → ValueAllowed v → valuePrefix v < 256
 prefix-small null g = omega arith
@@ -302,13 +371,14 @@ value-spelled null g = refl
 value-spelled (explicit v) g = refl
 value-spelled (commitment p part) g = ap (λ (l : List ℕ). l ++ part) (sym (one-byte p (prefix-small (commitment p part) g)))
 
-pub value-codes : (note amount : ℕ → ℕ → Entry) → Codes (λ at k. valueAt at note amount k) ValueAllowed valueBytes (valueLog note amount) valuePrefix
+pub value-codes : (note amount : ℕ → ℕ → Entry) → Codes (λ at k. valueAt at note amount k) ValueAllowed valueBytes (valueLog note amount) (valueEvents note amount) valuePrefix
 unfolding valueAt
 value-codes note amount =
     seen-as (λ v. (valuePrefix v, v))
     (λ v g h. (prefix-small v g, (refl, g)))
     value-spelled
     (λ at v g. refl)
+    (λ at v g. ap (λ (l : List ℕ). looked l ++ (enters (note (valuePrefix v) at) ∷ amountEvents amount v)) (sym (one-byte (valuePrefix v) (prefix-small v g))) ∙ sym (append-snoc (looked (bytesOf little 1 (valuePrefix v))) (enters (note (valuePrefix v) at)) (amountEvents amount v)))
     (λ v g. refl)
     (λ x g. (x .1, g .1 .1, ap (λ (p : ℕ). (p, x .1)) (g .1 .0)))
     (then {Q = λ at p. valueTail amount at p} (prefix-codes note) (λ at p g. tail-codes amount at p))
@@ -335,6 +405,9 @@ abbrev tokenTailBytes : Token → List ℕ
 tokenTailBytes absent = []
 tokenTailBytes (present p part) = part
 
+abbrev pub tokenEvents : (ℕ → ℕ → Entry) → ℕ → Token → List Event
+tokenEvents note at t = shown (tokenPrefix t) ∷ enters (note (tokenPrefix t) at) ∷ passed (tokenTailBytes t)
+
 module _ (hid : Hidden) (listed : ℕ → Bool) (place p : ℕ) where
   abbrev tokenPart : Part (Unit {0})
   tokenPart at k = opaqueAt at hid 32 (k tt)
@@ -345,13 +418,13 @@ module _ (hid : Hidden) (listed : ℕ → Bool) (place p : ℕ) where
   abbrev tokenTail : Part (Unit {0})
   tokenTail at k = cond (eqb p 0) (k tt at) (tokenRest at k)
 
-  absent-tail : eqb p 0 ≡ true → Codes tokenTail (λ (x : Unit {0}). Unit {0}) (λ x. []) (λ at x. []) (λ x. tt)
+  absent-tail : eqb p 0 ≡ true → Codes tokenTail (λ (x : Unit {0}). Unit {0}) (λ x. []) (λ at x. []) (λ at x. []) (λ x. tt)
   absent-tail e = if-true (eqb p 0) (λ at k. k tt at) tokenRest e (empty-codes tt)
 
-  present-tail : eqb p 0 ≡ false → listed p ≡ true → Codes tokenTail (Fixed 32) (λ b. b) (λ at b. []) (λ b. tt)
+  present-tail : eqb p 0 ≡ false → listed p ≡ true → Codes tokenTail (Fixed 32) (λ b. b) (λ at b. []) (λ at b. passed b) (λ b. tt)
   present-tail e₀ e = if-false (eqb p 0) (λ at k. k tt at) tokenRest e₀ (if-true (listed p) tokenPart (λ at k. refuse 5 place) e (opaque-codes hid 32))
 
-  unlisted-tail : eqb p 0 ≡ false → listed p ≡ false → Codes tokenTail (λ (x : Unit {0}). ⊥) (λ x. []) (λ at x. []) (λ x. tt)
+  unlisted-tail : eqb p 0 ≡ false → listed p ≡ false → Codes tokenTail (λ (x : Unit {0}). ⊥) (λ x. []) (λ at x. []) (λ at x. []) (λ x. tt)
   unlisted-tail e₀ e = if-false (eqb p 0) (λ at k. k tt at) tokenRest e₀ (if-false (listed p) tokenPart (λ at k. refuse 5 place) e (refuse-codes 5 place (λ x g. g)))
 
   abbrev Token-behind : Token → Type 0
@@ -370,11 +443,16 @@ module _ (hid : Hidden) (listed : ℕ → Bool) (l : Listing listed) where
   token-forth place absent g = absent-tail hid listed place 0 refl .forth tt tt
   token-forth place (present p part) g = present-tail hid listed place p (listed-other listed p 0 (g .0) (l .zeroth)) (g .0) .forth part (g .1)
 
-  token-tail : (place p : ℕ) → Codes (tokenTail hid listed place p) (Token-behind hid listed place p) tokenTailBytes (λ at t. []) (λ t. tt)
+  token-traced : (place : ℕ) (t : Token) → TokenAllowed listed t → (at : ℕ) (k : Unit {0} → ℕ → Layout Head) (ys : List ℕ) → at + length (tokenTailBytes t) ≤ limit → trace (tokenTail hid listed place (tokenPrefix t) at k) (tokenTailBytes t ++ ys) ≡ passed (tokenTailBytes t) ++ trace (k tt (at + length (tokenTailBytes t))) ys
+  token-traced place absent g = absent-tail hid listed place 0 refl .traced tt tt
+  token-traced place (present p part) g = present-tail hid listed place p (listed-other listed p 0 (g .0) (l .zeroth)) (g .0) .traced part (g .1)
+
+  token-tail : (place p : ℕ) → Codes (tokenTail hid listed place p) (Token-behind hid listed place p) tokenTailBytes (λ at t. []) (λ at t. passed (tokenTailBytes t)) (λ t. tt)
   token-tail place p =
       record {
         forth = λ t g at k ys h. subst (λ (q : ℕ). run (tokenTail hid listed place q at k) (tokenTailBytes t ++ ys) ≡ after (length (tokenTailBytes t)) [] (run (k tt (at + length (tokenTailBytes t))) ys)) (g .0) (token-forth place t (g .1) at k ys h);
         back = token-back hid listed place p;
+        traced = λ t g at k ys h. subst (λ (q : ℕ). trace (tokenTail hid listed place q at k) (tokenTailBytes t ++ ys) ≡ passed (tokenTailBytes t) ++ trace (k tt (at + length (tokenTailBytes t))) ys) (g .0) (token-traced place t (g .1) at k ys h);
       }
 
   token-small : (t : Token) → TokenAllowed listed t → tokenPrefix t < 256
@@ -386,13 +464,14 @@ module _ (hid : Hidden) (listed : ℕ → Bool) (l : Listing listed) where
   token-spelled absent g = refl
   token-spelled (present p part) g = ap (λ (b : List ℕ). b ++ part) (sym (one-byte p (l .byte p (g .0))))
 
-  pub token-codes : (note : ℕ → ℕ → Entry) → Codes (λ at (k : Unit {0} → ℕ → Layout Head). prefixedAt at hid listed note (k tt)) (TokenAllowed listed) tokenBytes (λ at t. note (tokenPrefix t) at ∷ []) (λ t. tt)
+  pub token-codes : (note : ℕ → ℕ → Entry) → Codes (λ at (k : Unit {0} → ℕ → Layout Head). prefixedAt at hid listed note (k tt)) (TokenAllowed listed) tokenBytes (λ at t. note (tokenPrefix t) at ∷ []) (tokenEvents note) (λ t. tt)
   unfolding prefixedAt
   token-codes note =
       seen-as (λ t. (tokenPrefix t, t))
       (λ t g h. (token-small t g, (refl, g)))
       token-spelled
       (λ at t g. refl)
+      (λ at t g. ap (λ (l : List ℕ). looked l ++ (enters (note (tokenPrefix t) at) ∷ passed (tokenTailBytes t))) (sym (one-byte (tokenPrefix t) (token-small t g))) ∙ sym (append-snoc (looked (bytesOf little 1 (tokenPrefix t))) (enters (note (tokenPrefix t) at)) (passed (tokenTailBytes t))))
       (λ t g. refl)
       (λ x g. (x .1, g .1 .1, ap (λ (p : ℕ). (p, x .1)) (g .1 .0)))
       (then {Q = λ at p. tokenTail hid listed at p} (prefix-codes note) (λ at p g. token-tail at p))
@@ -420,12 +499,18 @@ module _ (i : ℕ) where
   abbrev pub issuanceLog : ℕ → Issuance → List Entry
   issuanceLog at x = entry input i 6 (at ∷ []) ∷ (valueLog amountNote amountHalves 0 (x .amount) ++ valueLog keysNote keysHalves 0 (x .keys))
 
-  issuance-codes : Codes (λ at (k : Unit {0} → ℕ → Layout Head). issuanceAt i at (k tt)) IssuanceAllowed (λ x. issuanceBytes (some x)) issuanceLog (λ x. tt)
+  abbrev pub issuanceEvents : ℕ → Issuance → List Event
+  issuanceEvents at x =
+      entering (passed (x .blindingNonce)) (entry input i 6 (at ∷ []))
+      ++ (passed (x .entropy) ++ (valueEvents amountNote amountHalves 0 (x .amount) ++ valueEvents keysNote keysHalves 0 (x .keys)))
+
+  issuance-codes : Codes (λ at (k : Unit {0} → ℕ → Layout Head). issuanceAt i at (k tt)) IssuanceAllowed (λ x. issuanceBytes (some x)) issuanceLog issuanceEvents (λ x. tt)
   unfolding issuanceAt issuanceBytes
   issuance-codes =
       seen-as (λ x. (x .blindingNonce, (x .entropy, (x .amount, x .keys))))
       (λ x g h. (g .blindingNonce, (g .entropy, (g .amount, (g .keys, ap₂ _&&_ (null-prefix (x .amount) (g .amount)) (null-prefix (x .keys) (g .keys)) ∙ g .notNull)))))
       (λ x g. refl)
+      (λ at x g. refl)
       (λ at x g. refl)
       (λ x g. refl)
       (λ x g. (
@@ -451,14 +536,18 @@ module _ (i : ℕ) where
   issuedLog at none = []
   issuedLog at (some x) = issuanceLog at x
 
+  abbrev pub issuedEvents : ℕ → Option Issuance → List Event
+  issuedEvents at none = []
+  issuedEvents at (some x) = issuanceEvents at x
+
   module _ (raw : ℕ) where
     abbrev issued : Part (Unit {0})
     issued at k = cond (eqb (flagBit 31 raw) 1) (issuanceAt i at (k tt)) (k tt at)
 
-    with-flag : eqb (flagBit 31 raw) 1 ≡ true → Codes issued IssuanceAllowed (λ x. issuanceBytes (some x)) issuanceLog (λ x. tt)
+    with-flag : eqb (flagBit 31 raw) 1 ≡ true → Codes issued IssuanceAllowed (λ x. issuanceBytes (some x)) issuanceLog issuanceEvents (λ x. tt)
     with-flag e = if-true (eqb (flagBit 31 raw) 1) (λ at k. issuanceAt i at (k tt)) (λ at k. k tt at) e issuance-codes
 
-    without-flag : eqb (flagBit 31 raw) 1 ≡ false → Codes issued (λ (x : Unit {0}). Unit {0}) (λ x. []) (λ at x. []) (λ x. tt)
+    without-flag : eqb (flagBit 31 raw) 1 ≡ false → Codes issued (λ (x : Unit {0}). Unit {0}) (λ x. []) (λ at x. []) (λ at x. []) (λ x. tt)
     without-flag e = if-false (eqb (flagBit 31 raw) 1) (λ at k. issuanceAt i at (k tt)) (λ at k. k tt at) e (empty-codes tt)
 
     issued-forth : (o : Option Issuance) → Flagged (flags raw) o → (at : ℕ) (k : Unit {0} → ℕ → Layout Head) (ys : List ℕ) → at + length (issuanceBytes o) ≤ limit → run (issued at k) (issuanceBytes o ++ ys) ≡ after (length (issuanceBytes o)) (issuedLog at o) (run (k tt (at + length (issuanceBytes o))) ys)
@@ -466,11 +555,17 @@ module _ (i : ℕ) where
     issued-forth none g = without-flag (issuing raw ∙ lt-leb 2 (flags raw) (omega arith)) .forth tt tt
     issued-forth (some x) g = with-flag (issuing raw ∙ le-leb 2 (flags raw) (g .0)) .forth x (g .2)
 
-    issued-codes : Codes issued (Flagged (flags raw)) issuanceBytes issuedLog (λ o. tt)
+    issued-traced : (o : Option Issuance) → Flagged (flags raw) o → (at : ℕ) (k : Unit {0} → ℕ → Layout Head) (ys : List ℕ) → at + length (issuanceBytes o) ≤ limit → trace (issued at k) (issuanceBytes o ++ ys) ≡ issuedEvents at o ++ trace (k tt (at + length (issuanceBytes o))) ys
+    unfolding issuanceBytes
+    issued-traced none g = without-flag (issuing raw ∙ lt-leb 2 (flags raw) (omega arith)) .traced tt tt
+    issued-traced (some x) g = with-flag (issuing raw ∙ le-leb 2 (flags raw) (g .0)) .traced x (g .2)
+
+    issued-codes : Codes issued (Flagged (flags raw)) issuanceBytes issuedLog issuedEvents (λ o. tt)
     unfolding issuanceBytes
     issued-codes =
         record {
           forth = issued-forth;
+          traced = issued-traced;
           back = λ at k xs a bs h f.
               by-cases (eqb (flagBit 31 raw) 1)
               (λ e. let u = with-flag e .back at k xs a bs h f in began-as u (some (u .held)) (leb-true 2 (flags raw) (sym (issuing raw) ∙ e), flags-three raw, u .good) refl refl)
@@ -486,11 +581,19 @@ module _ (i : ℕ) where
       entry input i 1 (x .vout ∷ x .flags ∷ []) ∷
       (bodyLog scriptNote (at + 36) (x .script) ++ (entry input i 5 (x .sequence ∷ []) ∷ issuedLog (at + 36 + length (bodyBytes (x .script)) + 4) (x .issuance)))
 
+  abbrev pub inputEvents : ℕ → Input → List Event
+  inputEvents at x =
+      entering (passed (x .txid)) (entry input i 0 (at ∷ []))
+      ++ (entering (looked (bytesOf little 4 (rawVout (x .vout) (x .flags)))) (entry input i 1 (x .vout ∷ x .flags ∷ []))
+      ++ (bodyEvents scriptNote (at + 36) (x .script)
+      ++ (entering (looked (bytesOf little 4 (x .sequence))) (entry input i 5 (x .sequence ∷ []))
+      ++ issuedEvents (at + 36 + length (bodyBytes (x .script)) + 4) (x .issuance))))
+
   pub flagged-three : (f : ℕ) (o : Option Issuance) → Flagged f o → f ≤ 3
   flagged-three f none g = omega arith
   flagged-three f (some x) g = g .1
 
-  pub input-codes : Codes (λ at (k : Unit {0} → ℕ → Layout Head). inputAt i at (k tt)) InputAllowed inputBytes inputLog (λ x. tt)
+  pub input-codes : Codes (λ at (k : Unit {0} → ℕ → Layout Head). inputAt i at (k tt)) InputAllowed inputBytes inputLog inputEvents (λ x. tt)
   unfolding inputAt inputBytes
   input-codes =
       seen-as (λ x. (x .txid, (rawVout (x .vout) (x .flags), (x .script, (x .sequence, x .issuance)))))
@@ -512,6 +615,22 @@ module _ (i : ℕ) where
       entry input i 0 (at ∷ []) ∷
       entry input i 1 (v j ∷ f j ∷ []) ∷
       (bodyLog scriptNote (e₁ j) (x .script) ++ (entry input i 5 (x .sequence ∷ []) ∷ issuedLog (e₂ j) (x .issuance))))
+      (λ at x g.
+      let three = flagged-three (x .flags) (x .issuance) (g .issuance) in
+      let v = sym (raw-vout (x .vout) (x .flags) (g .outpoint) three) in
+      let f = sym (raw-flags (x .vout) (x .flags) (g .outpoint) three) in
+      let raw = rawVout (x .vout) (x .flags) in
+      let l₁ = g .txid .long in
+      let l₂ = length-bytes little 4 raw in
+      let l₃ = length-bytes little 4 (x .sequence) in
+      let e₁ : at + 36 ≡ at + length (x .txid) + length (bytesOf little 4 raw) = omega arith in
+      let e₂ : at + 36 + length (bodyBytes (x .script)) + 4 ≡ at + length (x .txid) + length (bytesOf little 4 raw) + length (bodyBytes (x .script)) + length (bytesOf little 4 (x .sequence)) = omega arith in
+      λ j.
+      entering (passed (x .txid)) (entry input i 0 (at ∷ []))
+      ++ (entering (looked (bytesOf little 4 raw)) (entry input i 1 (v j ∷ f j ∷ []))
+      ++ (bodyEvents scriptNote (e₁ j) (x .script)
+      ++ (entering (looked (bytesOf little 4 (x .sequence))) (entry input i 5 (x .sequence ∷ []))
+      ++ issuedEvents (e₂ j) (x .issuance)))))
       (λ x g. refl)
       (λ x g.
       let raw = x .1 .0 in
@@ -543,12 +662,20 @@ module _ (i : ℕ) where
       let at₃ = at₂ + length (tokenBytes (x .nonce)) in
       outNote 0 (tokenPrefix (x .asset)) at ∷ (valueLog (outNote 2) (outNote 4) at₁ (x .value) ++ (outNote 6 (tokenPrefix (x .nonce)) at₂ ∷ bodyLog (outNote 8) at₃ (x .script)))
 
-  pub output-codes : Codes (λ at (k : Unit {0} → ℕ → Layout Head). outputAt i at (k tt)) OutputAllowed outputBytes outputLog (λ x. tt)
+  abbrev pub outputEvents : ℕ → Output → List Event
+  outputEvents at x =
+      let at₁ = at + length (tokenBytes (x .asset)) in
+      let at₂ = at₁ + length (valueBytes (x .value)) in
+      let at₃ = at₂ + length (tokenBytes (x .nonce)) in
+      tokenEvents (outNote 0) at (x .asset) ++ (valueEvents (outNote 2) (outNote 4) at₁ (x .value) ++ (tokenEvents (outNote 6) at₂ (x .nonce) ++ bodyEvents (outNote 8) at₃ (x .script)))
+
+  pub output-codes : Codes (λ at (k : Unit {0} → ℕ → Layout Head). outputAt i at (k tt)) OutputAllowed outputBytes outputLog outputEvents (λ x. tt)
   unfolding outputAt outputBytes
   output-codes =
       seen-as (λ x. (x .asset, (x .value, (x .nonce, x .script))))
       (λ x g h. (g .asset, (g .value, (g .nonce, g .script))))
       (λ x g. refl)
+      (λ at x g. refl)
       (λ at x g. refl)
       (λ x g. refl)
       (λ x g. (record { asset = x .0; value = x .1 .0; nonce = x .1 .1 .0; script = x .1 .1 .1 }, record { asset = g .0; value = g .1 .0; nonce = g .1 .1 .0; script = g .1 .1 .1 }, refl))
@@ -568,7 +695,10 @@ itemNote j p n = entry item j 0 (p ∷ n ∷ [])
 abbrev pub itemLog : ℕ → ℕ → List ℕ → List Entry
 itemLog j = bodyLog (itemNote j)
 
-item-codes : (j : ℕ) → Codes (λ at (k : Unit {0} → ℕ → Layout Head). itemAt j at (k tt)) Bytes bodyBytes (itemLog j) (λ x. tt)
+abbrev pub itemEvents : ℕ → ℕ → List ℕ → List Event
+itemEvents j = bodyEvents (itemNote j)
+
+item-codes : (j : ℕ) → Codes (λ at (k : Unit {0} → ℕ → Layout Head). itemAt j at (k tt)) Bytes bodyBytes (itemLog j) (itemEvents j) (λ x. tt)
 unfolding itemAt
 item-codes j = handing (λ n. tt) (body-codes itemBody (itemNote j))
 
@@ -576,15 +706,21 @@ item-codes j = handing (λ n. tt) (body-codes itemBody (itemNote j))
 abbrev pub itemsLog : ℕ → ℕ → List (List ℕ) → List Entry
 itemsLog = logAll itemAt Bytes bodyBytes itemLog
 
+abbrev pub itemsEvents : ℕ → ℕ → List (List ℕ) → List Event
+itemsEvents = eventsAll bodyBytes itemEvents
+
 abbrev pub stackLog : (ℕ → Entry) → ℕ → ℕ → List (List ℕ) → List Entry
 stackLog note first at xs = note (length xs) ∷ itemsLog first (at + length (compactBytes (length xs))) xs
+
+abbrev pub stackEvents : (ℕ → Entry) → ℕ → ℕ → List (List ℕ) → List Event
+stackEvents note first at xs = entering (looked (compactBytes (length xs))) (note (length xs)) ++ itemsEvents first (at + length (compactBytes (length xs))) xs
 
 abbrev StackGood : ℕ → ℕ → List (List ℕ) → Type 0
 StackGood room first xs = ((length xs < 2 ^ 64) × (leb (length xs) (room - first) ≡ true)) × Every Bytes xs
 
-stack-codes : (room first : ℕ) (note : ℕ → Entry) → Codes (λ at k. stackAt room first at note k) (StackGood room first) (listBytes bodyBytes) (stackLog note first) (λ xs. length xs)
+stack-codes : (room first : ℕ) (note : ℕ → Entry) → Codes (λ at k. stackAt room first at note k) (StackGood room first) (listBytes bodyBytes) (stackLog note first) (stackEvents note first) (λ xs. length xs)
 unfolding stackAt
-stack-codes room first note = list-codes itemAt Bytes bodyBytes itemLog first (noting (λ at n. note n) (count-codes (room - first))) item-codes
+stack-codes room first note = list-codes itemAt Bytes bodyBytes itemLog itemEvents first (noting (λ at n. note n) (count-codes (room - first))) item-codes
 
 -- at least a byte for each
 pub compact-some : (n : ℕ) → 1 ≤ length (compactBytes n)
@@ -631,8 +767,15 @@ module _ (i : ℕ) where
       let at₃ = at₂ + length (listBytes bodyBytes (x .scriptItems)) in
       bodyLog (inNote 13) at (x .amountProof) ++ (bodyLog (inNote 15) at₁ (x .keysProof) ++ (stackLog (inNote 17 first) first at₂ (x .scriptItems) ++ stackLog peginNote (first + length (x .scriptItems)) at₃ (x .peginItems)))
 
+  abbrev pub inputWitnessEvents : ℕ → ℕ → InputWitness → List Event
+  inputWitnessEvents first at x =
+      let at₁ = at + length (bodyBytes (x .amountProof)) in
+      let at₂ = at₁ + length (bodyBytes (x .keysProof)) in
+      let at₃ = at₂ + length (listBytes bodyBytes (x .scriptItems)) in
+      bodyEvents (inNote 13) at (x .amountProof) ++ (bodyEvents (inNote 15) at₁ (x .keysProof) ++ (stackEvents (inNote 17 first) first at₂ (x .scriptItems) ++ stackEvents peginNote (first + length (x .scriptItems)) at₃ (x .peginItems)))
+
 module _ (room i : ℕ) (s : Seen) where
-  pub inputWitness-codes : Codes (λ at k. inputWitnessAt room i s at k) (Stacks room s) inputWitnessBytes (inputWitnessLog i (s .items)) (witnessSeen s)
+  pub inputWitness-codes : Codes (λ at k. inputWitnessAt room i s at k) (Stacks room s) inputWitnessBytes (inputWitnessLog i (s .items)) (inputWitnessEvents i (s .items)) (witnessSeen s)
   unfolding inputWitnessAt inputWitnessBytes
   inputWitness-codes =
       seen-as (λ x. (x .amountProof, (x .keysProof, (x .scriptItems, x .peginItems))))
@@ -647,6 +790,7 @@ module _ (room i : ℕ) (s : Seen) where
       let few′ = list-some bodyBytes body-some (x .peginItems) in
       (a .amountProof, (a .keysProof, (((omega arith, g .script), a .scriptItems), ((omega arith, g .pegin), a .peginItems)))))
       (λ x g. refl)
+      (λ at x g. refl)
       (λ at x g. refl)
       (λ x g. refl)
       (λ x g. (
@@ -674,12 +818,16 @@ module _ (i : ℕ) where
   abbrev pub outputWitnessLog : ℕ → OutputWitness → List Entry
   outputWitnessLog at x = bodyLog (outNote i 10) at (x .surjectionProof) ++ bodyLog (outNote i 12) (at + length (bodyBytes (x .surjectionProof))) (x .rangeProof)
 
-  pub outputWitness-codes : (s : Seen) → Codes (λ at k. outputWitnessAt i s at k) OutputWitnessAllowed outputWitnessBytes outputWitnessLog (outputSeen s)
+  abbrev pub outputWitnessEvents : ℕ → OutputWitness → List Event
+  outputWitnessEvents at x = bodyEvents (outNote i 10) at (x .surjectionProof) ++ bodyEvents (outNote i 12) (at + length (bodyBytes (x .surjectionProof))) (x .rangeProof)
+
+  pub outputWitness-codes : (s : Seen) → Codes (λ at k. outputWitnessAt i s at k) OutputWitnessAllowed outputWitnessBytes outputWitnessLog outputWitnessEvents (outputSeen s)
   unfolding outputWitnessAt outputWitnessBytes
   outputWitness-codes s =
       seen-as (λ x. (x .surjectionProof, x .rangeProof))
       (λ x g h. (g .surjectionProof, g .rangeProof))
       (λ x g. refl)
+      (λ at x g. refl)
       (λ at x g. refl)
       (λ x g. refl)
       (λ x g. (record { surjectionProof = x .0; rangeProof = x .1 }, record { surjectionProof = g .0; rangeProof = g .1 }, refl))

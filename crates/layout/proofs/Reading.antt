@@ -135,7 +135,7 @@ module _ {A : Type 0} where
       ∙ ap (λ bs. run (k (value o bs)) (drop w ys)) (same-bytes w _ hidden xs ys h e s′)
   blind (opaque x w l) xs ys e s =
       field-same w xs ys _ _ e λ h.
-      blind l (drop w xs) (drop w ys) (drops-alike w xs ys e) (stands-behind w _ true (hides l (drop w xs)) xs ys (field-stands w xs ys _ _ h s))
+      blind l (drop w xs) (drop w ys) (drops-alike w xs ys e) (stands-behind w _ _ (hides l (drop w xs)) xs ys (field-stands w xs ys _ _ h s))
   blind (enter e l) xs ys q s = ap (noted e) (blind l xs ys q s)
   blind (refuse n p) xs ys e s = refl
   blind (accept a) xs ys e s = refl

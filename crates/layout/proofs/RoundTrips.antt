@@ -3,6 +3,7 @@
 --     accepted                 and then answer, bytes taken and tables are that transaction's
 --     whole-exactly            read strictly: exactly if the bytes are those of such a transaction, and no more
 --     one-transaction          no bytes begin with two of them
+--     tables-show              a finished reading's head numbers and tables show its transaction over its bytes
 --     never-refused            a finished reading's tables are refused by the writer for nothing but 14
 --     read-then-write          written back over the same bytes they give the same bytes
 --     write-then-read          what the writer accepts reads back as the same transaction
@@ -10,33 +11,35 @@
 --     length-is                the length asked for alone is that of the written bytes
 --     too-long                 2 at 0, where it would be longer than 4,000,000
 --     refused-write-untouched  a refused write leaves the output as it was; written-tail: a success keeps what stands behind
-use Prim.Native.Nat.{ℕ, zero, suc, _+_, _-_, _*_, _/_, _%_, _^_, _<_, _≤_, min}
+use Prim.Native.Nat.{ℕ, _^_, _<_, _≤_}
 use mathlib.Core.Path.{_≡_, refl, sym, _∙_, ap, ap₂, subst}
-use mathlib.Core.Bool.{Bool, true, false, cond, not, _&&_, _||_}
-use mathlib.Core.List.{List, [], _∷_, _++_, append-assoc, append-nil, map}
-use mathlib.Core.Option.{Option, none, some}
+use mathlib.Core.Bool.{Bool, true, false, cond}
+use mathlib.Core.List.{List, [], _∷_, _++_, append-nil}
 use mathlib.Core.Logic.{_↔_}
-use native.Mathlib.Nat.{add-assoc, add-zero, zero-add}
 use native.Mathlib.Omega.{arith}
-use lib.Dec.{leb, eqb, ltb}
-use lib.ListN.{length, take, drop, getD, length-append, length-drop, length-map}
+use lib.Dec.{leb, ltb}
+use lib.ListN.{length, take, drop, length-append}
 use lib.Seq.{take-at, drop-at}
-use borrow.Author.Tests.{leb-true, leb-false, le-leb, lt-leb, ltb-true, ltb-false, le-ltb}
+use borrow.Author.Tests.{leb-true, le-leb, lt-leb, ltb-false, le-ltb}
 use Rattle.layout.specs.Number.{Bytes}
-use Rattle.layout.specs.Layout.{Answer, finished, more, refused, Reading, reading, run}
-use Rattle.layout.specs.Transaction.{Head, Room, limit, transaction}
-use Rattle.layout.specs.Outcome.{Tables, Sizes, Outcome, roomOf, zeros, laid, outcome, readingOf, partial, finish, ended, follow, strictly, strict}
-use Rattle.layout.specs.Contents.{Contents, contentsBytes, flagOf, Allowed}
-use Rattle.layout.specs.Records.{itemCount, headOf, Fits, tablesOf, inputsAt, outputsAt, witnessesAt}
-use Rattle.layout.specs.Writing.{records, inputOf, outputOf, inputRecords, outputRecords, itemRecords, _!_, contentsOf, Fault, passes, fault, _also_, unless, tableFaults, writtenBytes, faults, Verdict, wrote, unwritten, verdict, over, touched, Written, writtenLength, writing}
+use Rattle.layout.specs.Layout.{Answer, finished, more, refused, Reading, reading}
+use Rattle.layout.specs.Transaction.{Head, limit, transaction}
+use Rattle.layout.specs.Outcome.{Tables, Sizes, Outcome, roomOf, outcome, readingOf, partial, finish, follow, strict}
+use Rattle.layout.specs.Contents.{Contents, contentsBytes, Allowed}
+use Rattle.layout.specs.Records.{headOf, Fits, tablesOf}
+use Rattle.layout.specs.Shows.{Shows}
+use Rattle.layout.specs.Writing.{contentsOf, Fault, passes, fault, _also_, unless, tableFaults, writtenBytes, faults, Verdict, wrote, unwritten, verdict, over, touched, Written, writtenLength, writing}
 use Rattle.layout.proofs.Reading.{by-cases, refused-not-finished}
 use Rattle.layout.proofs.Theorems.{finish-finished, follow-finished}
-use Rattle.layout.proofs.Whole.{Formed, wholeLog, reads, Found, found}
-use Rattle.layout.proofs.Laying.{laid-whole, inputRows, outputRows, itemRows}
-use Rattle.layout.proofs.Columns.{InputAgrees, OutputAgrees, Each₂, RecordsAgree, rows-agree}
-use Rattle.layout.proofs.Showing.{Stands, Standing, standing, Parts, contents-back, input-records, output-records, item-records}
-use Rattle.layout.proofs.Judging.{also-split, unless-true, own-passes}
+use Rattle.layout.proofs.Whole.{Formed, reads, found}
+use Rattle.layout.proofs.Laying.{laid-whole}
+use Rattle.layout.proofs.Showing.{Standing, standing, Parts}
+use Rattle.layout.proofs.Own.{own-shows}
+use Rattle.layout.proofs.Judging.{also-split, unless-true}
+use Rattle.layout.proofs.Shown.{shown-contents, shown-passes}
 use Rattle.layout.proofs.Accepted.{Words, Passed, passed, Tells, tells, parts-allowed}
+use Rattle.layout.proofs.Passed.{passed-shows}
+use Rattle.layout.proofs.Columns.{RecordsAgree, shown-inputs-agree, shown-outputs-agree, shown-items-agree}
 
 -- ---- accepts-exactly
 
@@ -47,7 +50,7 @@ pub record Begins (z : Sizes) (xs : List ℕ) (x : Contents) : Type 0 where
   pub rest : List ℕ
   pub same : xs ≡ contentsBytes x ++ rest
 
-formed : (z : Sizes) (x : Contents) → Allowed x → Fits (roomOf z) x → Formed (roomOf z) x
+pub formed : (z : Sizes) (x : Contents) → Allowed x → Fits (roomOf z) x → Formed (roomOf z) x
 formed z x a f = record { version = a .version; inputs = a .inputs; outputs = a .outputs; locktime = a .locktime; witnesses = a .witnesses; fits = f }
 
 pub accepted : (z : Sizes) (xs : List ℕ) (x : Contents) → Begins z xs x → partial z xs ≡ record { answer = finished (headOf x); taken = length (contentsBytes x); tables = tablesOf z x }
@@ -119,17 +122,21 @@ whole-exactly z xs bs = (forward, λ b. (headOf (b .0), ap (λ (o : Outcome). o 
 -- ---- what the records show
 
 module _ (z : Sizes) (xs : List ℕ) (x : Contents) (b : Begins z xs x) where
-  parts : Parts xs x
+  pub parts : Parts xs x
   parts = record { inputs = b .allowed .inputs; outputs = b .allowed .outputs; witnesses = b .allowed .witnesses }
 
-  stand : Standing xs x
+  pub stand : Standing xs x
   stand = standing xs x (record { front = []; behind = b .rest; long = refl; same = b .same })
 
+  -- Its head numbers and tables, over those bytes, show it.
+  pub its-shows : Shows (headOf x) (tablesOf z x) xs x
+  its-shows = own-shows xs x parts stand z (b .fits)
+
   pub shows : contentsOf (headOf x) (tablesOf z x) xs ≡ x
-  shows = contents-back xs x parts stand z (headOf x) refl refl refl refl refl refl
+  shows = shown-contents (headOf x) (tablesOf z x) xs x parts its-shows
 
   no-fault : tableFaults (headOf x) (tablesOf z x) (length xs) ≡ passes
-  no-fault = own-passes xs x parts stand z (b .fits) (headOf x) refl refl refl refl
+  no-fault = shown-passes (headOf x) (tablesOf z x) xs x parts its-shows
 
   pub written : writtenBytes (headOf x) (tablesOf z x) xs ≡ contentsBytes x
   written = ap contentsBytes shows
@@ -138,22 +145,26 @@ module _ (z : Sizes) (xs : List ℕ) (x : Contents) (b : Begins z xs x) where
   unfolding faults
   no-faults = ap₂ _also_ no-fault (ap (λ (b : Bool). unless b 2 0) (ap (λ (l : List ℕ). leb (length l) limit) written ∙ le-leb (length (contentsBytes x)) limit (b .allowed .within)))
 
-finished-same : {a b : Head} → _≡_ {A = Answer Head} (finished a) (finished b) → a ≡ b
+pub finished-same : {a b : Head} → _≡_ {A = Answer Head} (finished a) (finished b) → a ≡ b
 finished-same {a} e = ap (λ (r : Answer Head). elim r [ finished h ↦ h | more ↦ a | refused n p ↦ a ]) e
 
 -- the head and tables of a finished reading are its transaction's
 module _ (z : Sizes) (xs : List ℕ) (h : Head) (bs : Bytes xs) (e : partial z xs .answer ≡ finished h) where
-  abbrev its : Contents
+  abbrev pub its : Contents
   its = begins z xs h bs e .0
 
   its-outcome : partial z xs ≡ record { answer = finished (headOf its); taken = length (contentsBytes its); tables = tablesOf z its }
   its-outcome = accepted z xs its (begins z xs h bs e .1)
 
-  its-head : headOf its ≡ h
+  pub its-head : headOf its ≡ h
   its-head = finished-same (sym (ap (λ (o : Outcome). o .answer) its-outcome) ∙ e)
 
-  its-tables : tablesOf z its ≡ partial z xs .tables
+  pub its-tables : tablesOf z its ≡ partial z xs .tables
   its-tables = sym (ap (λ (o : Outcome). o .tables) its-outcome)
+
+  -- They show it over its bytes: every number, and every body at its position.
+  pub tables-show : Shows h (partial z xs .tables) xs its
+  tables-show = subst (λ (g : Head). Shows g (partial z xs .tables) xs its) its-head (subst (λ (t : Tables). Shows (headOf its) t xs its) its-tables (its-shows z xs its (begins z xs h bs e .1)))
 
   pub never-refused : faults h (partial z xs .tables) xs ≡ passes
   never-refused = ap₂ (λ (g : Head) (t : Tables). faults g t xs) (sym its-head) (sym its-tables) ∙ no-faults z xs its (begins z xs h bs e .1)
@@ -272,22 +283,29 @@ module _ (h : Head) (t : Tables) (source : List ℕ) (lent : Lent h t source) (o
         transaction = ap₂ (λ (g : Head) (ts : Tables). contentsOf g ts (bytes ++ rest)) (sym head-same) (ap (λ (r : Outcome). r .tables) o) ∙ shows z (bytes ++ rest) held b;
       }
 
+  -- Both show one transaction: the tables over the source, and those read back over the written bytes.
+  pub source-shows : Shows h t source held
+  source-shows = passed-shows source (lent .source-bytes) h t all-passed (lent .inputs) (lent .outputs)
+
+  pub back-shows : (z : Sizes) → Holds z h → (rest : List ℕ) → Shows (lengthened h (length bytes)) (partial z (bytes ++ rest) .tables) (bytes ++ rest) held
+  back-shows z room rest =
+      let b = begun z room rest in
+      let tables = ap (λ (r : Outcome). r .tables) (accepted z (bytes ++ rest) held b) in
+      subst (λ (g : Head). Shows g (partial z (bytes ++ rest) .tables) (bytes ++ rest) held) head-same (subst (λ (u : Tables). Shows (headOf held) u (bytes ++ rest) held) (sym tables) (its-shows z (bytes ++ rest) held b))
+
+  pub held-parts : Parts source held
+  held-parts = parts-allowed source (lent .source-bytes) h t all-passed (lent .inputs) (lent .outputs)
+
   -- And record for record, the numbers agree in all but positions.
   pub records-agree : (z : Sizes) → Holds z h → (rest : List ℕ) → RecordsAgree h t (partial z (bytes ++ rest) .tables)
-  unfolding contentsOf
   records-agree z room rest =
-      let b = begun z room rest in
-      let g = parts z (bytes ++ rest) held b in
-      let s = stand z (bytes ++ rest) held b in
-      let tables = ap (λ (r : Outcome). r .tables) (accepted z (bytes ++ rest) held b) in
-      let rows : inputRecords h (partial z (bytes ++ rest) .tables) ≡ inputRows held = (λ j. records 20 (told .inputs j) (tables j .inputs)) ∙ input-records (bytes ++ rest) held g s z in
-      let rows′ : outputRecords h (partial z (bytes ++ rest) .tables) ≡ outputRows held = (λ j. records 14 (told .outputs j) (tables j .outputs)) ∙ output-records (bytes ++ rest) held g s z in
-      let rows″ : itemRecords h (partial z (bytes ++ rest) .tables) ≡ itemRows held = (λ j. records 2 (told .items j) (tables j .items)) ∙ item-records (bytes ++ rest) held g s z in
-      let a = rows-agree source (lent .source-bytes) h t all-passed (lent .inputs) (lent .outputs) (inputsAt held) (outputsAt held) (witnessesAt held) (length (held .inputs)) (length (held .outputs)) (length-map (inputRecords h t) (inputOf source)) (length-map (outputRecords h t) (outputOf source)) in
+      let g = lengthened h (length bytes) in
+      let u = partial z (bytes ++ rest) .tables in
+      let b = back-shows z room rest in
       record {
-        inputs = subst (λ (l : List (List ℕ)). Each₂ InputAgrees (inputRecords h t) l) (sym rows) (a .0);
-        outputs = subst (λ (l : List (List ℕ)). Each₂ OutputAgrees (outputRecords h t) l) (sym rows′) (a .1);
-        items = subst (λ (l : List (List ℕ)). Each₂ (λ r s. r ! 1 ≡ s ! 1) (itemRecords h t) l) (sym rows″) (a .2);
+        inputs = shown-inputs-agree held h g t u source (bytes ++ rest) held-parts source-shows b;
+        outputs = shown-outputs-agree held h g t u source (bytes ++ rest) held-parts source-shows b;
+        items = shown-items-agree held h g t u source (bytes ++ rest) held-parts source-shows b;
       }
 
 -- ---- the answer, the length and the output

@@ -2,13 +2,15 @@
 use Prim.Native.Nat.{ℕ, zero, suc, _+_, _-_, _*_, _^_, _<_, _≤_}
 use mathlib.Core.Path.{_≡_, refl, sym, _∙_, ap, ap₂, subst}
 use mathlib.Core.List.{List, [], _∷_, _++_, append-nil}
+use mathlib.Core.Bool.{Bool, cond}
+use mathlib.Core.Logic.{_↔_}
 use mathlib.Core.Option.{Option, some, none}
 use native.Mathlib.Nat.{zero-add, mul-suc, mul-le-mul-left, le-trans}
 use native.Mathlib.Omega.{arith}
 use lib.Dec.{ltb, lit<}
 use lib.ListN.{length, getD, replicate, set, length-set}
 use lib.Seq.{sets, getD-set-other, getD-set-same, set-out}
-use borrow.Author.Tests.{ltb-true, ltb-false, lt-ltb}
+use borrow.Author.Tests.{ltb-true, ltb-false, lt-ltb, le-ltb}
 use Rattle.layout.specs.Number.{Bytes}
 use Rattle.layout.specs.Layout.{Layout, Answer, finished, more, refused, Reading, reading, Entry, Table, input, output, item, run}
 use Rattle.layout.specs.Transaction.{Head, Room, limit, transaction}
@@ -253,7 +255,7 @@ module _ (source : List ℕ) where
   issued at flags none g s ws = λ h. absurd (omega arith)
   issued at flags (some x) g s ws =
       let t = issuance-stands source at x (g .2) s in
-      λ h. omega (arith, stands-lies _ _ (t .keys), value-width (x .keys) (g .2 .keys))
+      λ h. omega (arith, stands-lies _ _ (t .keys), value-width (x .amount) (g .2 .amount), value-width (x .keys) (g .2 .keys))
 
   rows-issued : (xs : List Input) (at : ℕ) (ws : List (List ℕ)) → Every InputAllowed xs → Stands source at (flat inputBytes xs) → Every (Issued (length source)) (beside (placed inputBytes inputColumns at xs) ws)
   unfolding flat placed beside
@@ -284,3 +286,32 @@ issuance-within z xs bytes h e =
     subst (λ (k : Head). Every (Issued (readingOf z xs .taken)) (records (width input) (k .inputs) (partial z xs .tables .inputs))) same
     (subst (λ (y : Reading Head). Every (Issued (y .taken)) (records (width input) (length (x .inputs)) (outcome z y .tables .inputs))) (sym r)
     (subst (λ (rs : List (List ℕ)). Every (Issued (length (contentsBytes x))) rs) (sym rows) all))
+
+-- ---- room, at once, strictly
+
+-- A table holds as many whole records as fit; the item table at most 4,294,967,295.
+pub room-is : (z : Sizes) (n : ℕ) → ((n ≤ roomOf z .inputs) ↔ (20 * n ≤ z .inputs)) × ((n ≤ roomOf z .outputs) ↔ (14 * n ≤ z .outputs)) × ((n ≤ roomOf z .items) ↔ ((2 * n ≤ z .items) × (n ≤ 4294967295)))
+room-is z n = ((λ h. omega arith, λ h. omega arith), (λ h. omega arith, λ h. omega arith), (λ h. (omega arith, omega arith), λ h. omega (arith, h .0, h .1)))
+
+-- Reading at once changes nothing where no more is wanted; its strict form adds 9, at the first byte behind, and nothing else.
+finish-stays : (a : Answer Head) (n : ℕ) → (a ≡ more → ⊥) → finish a n ≡ a
+finish-stays (finished h) n f = refl
+finish-stays more n f = absurd (f refl)
+finish-stays (refused k p) n f = refl
+
+pub at-once-other : (z : Sizes) (xs : List ℕ) → (partial z xs .answer ≡ more → ⊥) → atOnce z xs ≡ partial z xs
+at-once-other z xs f = ap (λ (b : Answer Head). outcome z (reading b (readingOf z xs .taken) (readingOf z xs .log))) (finish-stays (readingOf z xs .answer) (readingOf z xs .taken) f)
+
+pub strict-nine : (z : Sizes) (xs : List ℕ) (h : Head) → readingOf z xs .answer ≡ finished h → readingOf z xs .taken < length xs → strict z xs ≡ record { answer = refused 9 (readingOf z xs .taken); taken = readingOf z xs .taken; tables = zeros z }
+strict-nine z xs h e less =
+    let n = readingOf z xs .taken in
+    let a : follow (finish (readingOf z xs .answer) n) n (length xs) ≡ refused 9 n = ap (λ (b : Answer Head). follow (finish b n) n (length xs)) e ∙ ap (λ (t : Bool). cond t (refused 9 n) (finished h)) (lt-ltb n (length xs) less) in
+    ap (λ (b : Answer Head). outcome z (reading b n (readingOf z xs .log))) a
+
+follow-stays : (a : Answer Head) (n m : ℕ) → ((h : Head) → a ≡ finished h → m ≤ n) → follow a n m ≡ a
+follow-stays (finished h) n m f = ap (λ (t : Bool). cond t (refused 9 n) (finished h)) (le-ltb n m (f h refl))
+follow-stays more n m f = refl
+follow-stays (refused k p) n m f = refl
+
+pub strict-other : (z : Sizes) (xs : List ℕ) → ((h : Head) → atOnce z xs .answer ≡ finished h → length xs ≤ atOnce z xs .taken) → strict z xs ≡ atOnce z xs
+strict-other z xs f = ap (λ (b : Answer Head). outcome z (reading b (readingOf z xs .taken) (readingOf z xs .log))) (follow-stays (atOnce z xs .answer) (readingOf z xs .taken) (length xs) f)

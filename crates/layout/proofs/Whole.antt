@@ -16,9 +16,10 @@ use Rattle.layout.specs.Contents.{Token, absent, present, valueBytes, is
 use Rattle.layout.specs.Records.{itemsOf, sum, itemCount, headOf, Fits}
 use Rattle.layout.proofs.Number.{length-bytes}
 use Rattle.layout.proofs.Reading.{by-cases}
+use Rattle.layout.proofs.Trace.{Event, shown, looked, trace}
 use Rattle.layout.proofs.Outpoint.{true-not-false}
-use Rattle.layout.proofs.Codes.{Part, after, Finishes, Began, Codes, then, noting, passing, failing, seen-as, began-as, handing, if-true, if-false, empty-codes, refuse-codes, GoodEach, logEach, nextEach, each-codes, logAll, list-codes, number-codes}
-use Rattle.layout.proofs.Parts.{one-byte, count-codes, inputLog, input-codes, outputLog, output-codes, Stacks, witnessSeen, inputWitnessLog, inputWitness-codes, outputSeen, outputWitnessLog, outputWitness-codes, list-some, compact-some}
+use Rattle.layout.proofs.Codes.{Part, after, Finishes, Began, Codes, then, noting, passing, failing, seen-as, began-as, handing, if-true, if-false, empty-codes, refuse-codes, GoodEach, logEach, eventsEach, nextEach, each-codes, logAll, eventsAll, list-codes, number-codes}
+use Rattle.layout.proofs.Parts.{one-byte, count-codes, inputLog, inputEvents, input-codes, outputLog, outputEvents, output-codes, Stacks, witnessSeen, inputWitnessLog, inputWitnessEvents, inputWitness-codes, outputSeen, outputWitnessLog, outputWitnessEvents, outputWitness-codes, list-some, compact-some}
 
 -- ---- what later witnesses need of earlier ones
 
@@ -38,7 +39,7 @@ module _ (room : ℕ) where
   abbrev InputsGood : Seen → List InputWitness → Type 0
   InputsGood = GoodEach (inputWitnessAt room) (Stacks room) inputWitnessBytes (λ i s. inputWitnessLog i (s .items)) witnessSeen
 
-  abbrev inputsSeen : Seen → List InputWitness → Seen
+  abbrev pub inputsSeen : Seen → List InputWitness → Seen
   inputsSeen = nextEach (inputWitnessAt room) (Stacks room) inputWitnessBytes (λ i s. inputWitnessLog i (s .items)) witnessSeen
 
   abbrev pub inputWitnessesLog : ℕ → ℕ → ℕ → List InputWitness → List Entry
@@ -49,6 +50,14 @@ module _ (room : ℕ) where
   inputs-log i s at [] = refl
   inputs-log i s at (x ∷ xs) = ap (λ (es : List Entry). inputWitnessLog i (s .items) at x ++ es) (inputs-log (suc i) (witnessSeen s x) (at + length (inputWitnessBytes x)) xs)
 
+  abbrev pub inputWitnessesEvents : ℕ → ℕ → ℕ → List InputWitness → List Event
+  inputWitnessesEvents i first at [] = []
+  inputWitnessesEvents i first at (x ∷ xs) = inputWitnessEvents i first at x ++ inputWitnessesEvents (suc i) (first + length (x .scriptItems) + length (x .peginItems)) (at + length (inputWitnessBytes x)) xs
+
+  inputs-events : (i : ℕ) (s : Seen) (at : ℕ) (xs : List InputWitness) → inputWitnessesEvents i (s .items) at xs ≡ eventsEach inputWitnessBytes (λ i s. inputWitnessEvents i (s .items)) witnessSeen i s at xs
+  inputs-events i s at [] = refl
+  inputs-events i s at (x ∷ xs) = ap (λ (es : List Event). inputWitnessEvents i (s .items) at x ++ es) (inputs-events (suc i) (witnessSeen s x) (at + length (inputWitnessBytes x)) xs)
+
   inputs-seen : (n : ℕ) (b : Bool) (xs : List InputWitness) → inputsSeen (seen n b) xs ≡ seen (n + sum itemsOf xs) (b && all inputEmpty xs)
   unfolding sum all
   inputs-seen n b [] = ap₂ seen (sym (add-zero n)) (sym (and-true b))
@@ -57,7 +66,7 @@ module _ (room : ℕ) where
       ∙ ap₂ seen (omega arith) (and-all b (eqb (length (x .amountProof)) 0) (eqb (length (x .keysProof)) 0) (eqb (length (x .scriptItems)) 0) (eqb (length (x .peginItems)) 0) (all inputEmpty xs))
 
   -- the items of all fit in the room exactly if each stack fits in what is left
-  stacks-fit : (s : Seen) (xs : List InputWitness) → s .items + sum itemsOf xs ≤ room → Every InputWitnessAllowed xs → InputsGood s xs
+  pub stacks-fit : (s : Seen) (xs : List InputWitness) → s .items + sum itemsOf xs ≤ room → Every InputWitnessAllowed xs → InputsGood s xs
   unfolding sum
   stacks-fit s [] h g = tt
   stacks-fit s (x ∷ xs) h g = (
@@ -77,7 +86,7 @@ module _ (room : ℕ) where
 abbrev OutputsGood : Seen → List OutputWitness → Type 0
 OutputsGood = GoodEach outputWitnessAt (λ s. OutputWitnessAllowed) outputWitnessBytes (λ i s. outputWitnessLog i) outputSeen
 
-abbrev outputsSeen : Seen → List OutputWitness → Seen
+abbrev pub outputsSeen : Seen → List OutputWitness → Seen
 outputsSeen = nextEach outputWitnessAt (λ s. OutputWitnessAllowed) outputWitnessBytes (λ i s. outputWitnessLog i) outputSeen
 
 abbrev pub outputWitnessesLog : ℕ → ℕ → List OutputWitness → List Entry
@@ -88,12 +97,19 @@ outputs-log : (i : ℕ) (s : Seen) (at : ℕ) (xs : List OutputWitness) → outp
 outputs-log i s at [] = refl
 outputs-log i s at (x ∷ xs) = ap (λ (es : List Entry). outputWitnessLog i at x ++ es) (outputs-log (suc i) (outputSeen s x) (at + length (outputWitnessBytes x)) xs)
 
+abbrev pub outputWitnessesEvents : ℕ → ℕ → List OutputWitness → List Event
+outputWitnessesEvents = eventsAll outputWitnessBytes outputWitnessEvents
+
+outputs-events : (i : ℕ) (s : Seen) (at : ℕ) (xs : List OutputWitness) → outputWitnessesEvents i at xs ≡ eventsEach outputWitnessBytes (λ i s. outputWitnessEvents i) outputSeen i s at xs
+outputs-events i s at [] = refl
+outputs-events i s at (x ∷ xs) = ap (λ (es : List Event). outputWitnessEvents i at x ++ es) (outputs-events (suc i) (outputSeen s x) (at + length (outputWitnessBytes x)) xs)
+
 outputs-seen : (n : ℕ) (b : Bool) (xs : List OutputWitness) → outputsSeen (seen n b) xs ≡ seen n (b && all outputEmpty xs)
 unfolding all
 outputs-seen n b [] = ap (seen n) (sym (and-true b))
 outputs-seen n b (x ∷ xs) = outputs-seen n (outputSeen (seen n b) x .empty) xs ∙ ap (seen n) (and-two b (eqb (length (x .surjectionProof)) 0) (eqb (length (x .rangeProof)) 0) (all outputEmpty xs))
 
-outputs-good : (s : Seen) (xs : List OutputWitness) → Every OutputWitnessAllowed xs → OutputsGood s xs
+pub outputs-good : (s : Seen) (xs : List OutputWitness) → Every OutputWitnessAllowed xs → OutputsGood s xs
 outputs-good s [] g = tt
 outputs-good s (x ∷ xs) g = (g .0, outputs-good (outputSeen s x) xs (g .1))
 
@@ -110,7 +126,7 @@ module _ (room ins outs : ℕ) where
       each outputWitnessAt outs 0 s₁ at₁ λ s₂ at₂.
       cond (s₂ .empty) (refuse 8 4) (k (s₂ .items) at₂)
 
-  last-seen : (ws : List InputWitness) (vs : List OutputWitness) → outputsSeen (inputsSeen room (seen 0 true) ws) vs ≡ seen (sum itemsOf ws) (all inputEmpty ws && all outputEmpty vs)
+  pub last-seen : (ws : List InputWitness) (vs : List OutputWitness) → outputsSeen (inputsSeen room (seen 0 true) ws) vs ≡ seen (sum itemsOf ws) (all inputEmpty ws && all outputEmpty vs)
   last-seen ws vs =
       ap (λ (s : Seen). outputsSeen s vs) (inputs-seen room 0 true ws)
       ∙ outputs-seen (0 + sum itemsOf ws) (all inputEmpty ws) vs
@@ -123,7 +139,10 @@ module _ (room ins outs : ℕ) where
   abbrev pub witnessesLog : ℕ → Witnesses → List Entry
   witnessesLog at x = inputWitnessesLog room 0 0 at (x .inputs) ++ outputWitnessesLog 0 (at + length (flat inputWitnessBytes (x .inputs))) (x .outputs)
 
-  witnessed-codes : Codes witnessed Witnessed (λ x. flat inputWitnessBytes (x .inputs) ++ flat outputWitnessBytes (x .outputs)) witnessesLog (λ x. sum itemsOf (x .inputs))
+  abbrev pub witnessesEvents : ℕ → Witnesses → List Event
+  witnessesEvents at x = inputWitnessesEvents room 0 0 at (x .inputs) ++ outputWitnessesEvents 0 (at + length (flat inputWitnessBytes (x .inputs))) (x .outputs)
+
+  witnessed-codes : Codes witnessed Witnessed (λ x. flat inputWitnessBytes (x .inputs) ++ flat outputWitnessBytes (x .outputs)) witnessesLog witnessesEvents (λ x. sum itemsOf (x .inputs))
   witnessed-codes =
       seen-as (λ x. (x .inputs, x .outputs))
       (λ x g h. (
@@ -132,6 +151,7 @@ module _ (room ins outs : ℕ) where
       ))
       (λ x g. refl)
       (λ at x g. ap₂ (λ (es fs : List Entry). es ++ fs) (inputs-log room 0 (seen 0 true) at (x .inputs)) (outputs-log 0 (inputsSeen room (seen 0 true) (x .inputs)) (at + length (flat inputWitnessBytes (x .inputs))) (x .outputs)))
+      (λ at x g. ap₂ (λ (es fs : List Event). es ++ fs) (inputs-events room 0 (seen 0 true) at (x .inputs)) (outputs-events 0 (inputsSeen room (seen 0 true) (x .inputs)) (at + length (flat inputWitnessBytes (x .inputs))) (x .outputs)))
       (λ x g. sym (ap (λ (s : Seen). s .items) (last-seen (x .inputs) (x .outputs))))
       (λ x g.
       let fit = fit-stacks room (seen 0 true) (x .0) (omega arith) (g .0 .1) in (
@@ -149,8 +169,8 @@ module _ (room ins outs : ℕ) where
         refl,
       ))
       (then {Q = λ _ s₁ at₁ k. each outputWitnessAt outs 0 s₁ at₁ λ s₂ at₂. cond (s₂ .empty) (refuse 8 4) (k (s₂ .items) at₂)}
-      (each-codes (inputWitnessAt room) (Stacks room) inputWitnessBytes (λ i s. inputWitnessLog i (s .items)) witnessSeen (inputWitness-codes room) ins 0 (seen 0 true)) λ _ ws _.
-      handing (λ s. s .items) (failing (λ s. s .empty) 8 4 (each-codes outputWitnessAt (λ s. OutputWitnessAllowed) outputWitnessBytes (λ i s. outputWitnessLog i) outputSeen outputWitness-codes outs 0 (inputsSeen room (seen 0 true) ws))))
+      (each-codes (inputWitnessAt room) (Stacks room) inputWitnessBytes (λ i s. inputWitnessLog i (s .items)) (λ i s. inputWitnessEvents i (s .items)) witnessSeen (inputWitness-codes room) ins 0 (seen 0 true)) λ _ ws _.
+      handing (λ s. s .items) (failing (λ s. s .empty) 8 4 (each-codes outputWitnessAt (λ s. OutputWitnessAllowed) outputWitnessBytes (λ i s. outputWitnessLog i) (λ i s. outputWitnessEvents i) outputSeen outputWitness-codes outs 0 (inputsSeen room (seen 0 true) ws))))
 
   -- With flag 1: the witnesses. 7: a flag above 1.
   module _ (flag : ℕ) where
@@ -163,13 +183,13 @@ module _ (room ins outs : ℕ) where
     abbrev TailGood : Option Witnesses → Type 0
     TailGood o = (flagOf o ≡ flag) × MaybeAllowed ins outs o × (itemCount o ≤ room)
 
-    plain : eqb flag 0 ≡ true → Codes tailAt (λ (x : Unit {0}). Unit {0}) (λ x. []) (λ at x. []) (λ x. 0)
+    plain : eqb flag 0 ≡ true → Codes tailAt (λ (x : Unit {0}). Unit {0}) (λ x. []) (λ at x. []) (λ at x. []) (λ x. 0)
     plain e = if-true (eqb flag 0) (λ at k. k 0 at) otherwise e (empty-codes 0)
 
-    flagged : eqb flag 0 ≡ false → eqb flag 1 ≡ true → Codes tailAt Witnessed (λ x. flat inputWitnessBytes (x .inputs) ++ flat outputWitnessBytes (x .outputs)) witnessesLog (λ x. sum itemsOf (x .inputs))
+    flagged : eqb flag 0 ≡ false → eqb flag 1 ≡ true → Codes tailAt Witnessed (λ x. flat inputWitnessBytes (x .inputs) ++ flat outputWitnessBytes (x .outputs)) witnessesLog witnessesEvents (λ x. sum itemsOf (x .inputs))
     flagged e₀ e₁ = if-false (eqb flag 0) (λ at k. k 0 at) otherwise e₀ (if-true (eqb flag 1) witnessed (λ at k. refuse 7 4) e₁ witnessed-codes)
 
-    unflagged : eqb flag 0 ≡ false → eqb flag 1 ≡ false → Codes tailAt (λ (x : Unit {0}). ⊥) (λ x. []) (λ at x. []) (λ x. 0)
+    unflagged : eqb flag 0 ≡ false → eqb flag 1 ≡ false → Codes tailAt (λ (x : Unit {0}). ⊥) (λ x. []) (λ at x. []) (λ at x. []) (λ x. 0)
     unflagged e₀ e₁ = if-false (eqb flag 0) (λ at k. k 0 at) otherwise e₀ (if-false (eqb flag 1) witnessed (λ at k. refuse 7 4) e₁ (refuse-codes 7 4 (λ x g. g)))
 
     abbrev pub tailLog : ℕ → Option Witnesses → List Entry
@@ -181,11 +201,21 @@ module _ (room ins outs : ℕ) where
     tail-forth none g = plain (eq-eqb flag 0 (sym (g .0))) .forth tt tt
     tail-forth (some x) g = flagged (ne-eqb flag 0 (λ e. omega (arith, g .0))) (eq-eqb flag 1 (sym (g .0))) .forth x (record { allowed = g .1; room-for = g .2 })
 
-    tail-codes : Codes tailAt TailGood witnessesBytes tailLog itemCount
+    abbrev pub tailEvents : ℕ → Option Witnesses → List Event
+    tailEvents at none = []
+    tailEvents at (some x) = witnessesEvents at x
+
+    tail-traced : (o : Option Witnesses) → TailGood o → (at : ℕ) (k : ℕ → ℕ → Layout Head) (ys : List ℕ) → at + length (witnessesBytes o) ≤ limit → trace (tailAt at k) (witnessesBytes o ++ ys) ≡ tailEvents at o ++ trace (k (itemCount o) (at + length (witnessesBytes o))) ys
+    unfolding witnessesBytes
+    tail-traced none g = plain (eq-eqb flag 0 (sym (g .0))) .traced tt tt
+    tail-traced (some x) g = flagged (ne-eqb flag 0 (λ e. omega (arith, g .0))) (eq-eqb flag 1 (sym (g .0))) .traced x (record { allowed = g .1; room-for = g .2 })
+
+    tail-codes : Codes tailAt TailGood witnessesBytes tailLog tailEvents itemCount
     unfolding witnessesBytes
     tail-codes =
         record {
           forth = tail-forth;
+          traced = tail-traced;
           back = λ at k xs a bs h f.
               by-cases (eqb flag 0)
               (λ e. began-as (plain e .back at k xs a bs h f) none (sym (eqb-true flag 0 e), tt, omega arith) refl refl)
@@ -243,6 +273,12 @@ inputsLog = logAll inputAt InputAllowed inputBytes inputLog
 abbrev pub outputsLog : ℕ → ℕ → List Output → List Entry
 outputsLog = logAll outputAt OutputAllowed outputBytes outputLog
 
+abbrev pub inputsEvents : ℕ → ℕ → List Input → List Event
+inputsEvents = eventsAll inputBytes inputEvents
+
+abbrev pub outputsEvents : ℕ → ℕ → List Output → List Event
+outputsEvents = eventsAll outputBytes outputEvents
+
 pub flag-small : (o : Option Witnesses) → flagOf o < 256
 flag-small none = omega arith
 flag-small (some x) = omega arith
@@ -257,10 +293,20 @@ module _ (room : Room) where
       ++ (outputsLog 0 (at₂ + length (compactBytes (length (x .outputs)))) (x .outputs)
       ++ tailLog (room .items) (length (x .inputs)) (length (x .outputs)) (flagOf (x .witnesses)) at₃ (x .witnesses))
 
+  abbrev pub wholeEvents : ℕ → Contents → List Event
+  wholeEvents at x =
+      let at₁ = at + 5 in
+      let at₂ = at₁ + length (listBytes inputBytes (x .inputs)) in
+      let at₃ = at₂ + length (listBytes outputBytes (x .outputs)) + 4 in
+      looked (bytesOf little 4 (x .version)) ++ (shown (flagOf (x .witnesses)) ∷
+      ((looked (compactBytes (length (x .inputs))) ++ inputsEvents 0 (at₁ + length (compactBytes (length (x .inputs)))) (x .inputs))
+      ++ ((looked (compactBytes (length (x .outputs))) ++ outputsEvents 0 (at₂ + length (compactBytes (length (x .outputs)))) (x .outputs))
+      ++ (looked (bytesOf little 4 (x .locktime)) ++ tailEvents (room .items) (length (x .inputs)) (length (x .outputs)) (flagOf (x .witnesses)) at₃ (x .witnesses)))))
+
   abbrev headBy : Contents → ℕ → Head
   headBy x bytes = record { version = x .version; flag = flagOf (x .witnesses); inputs = length (x .inputs); outputs = length (x .outputs); items = itemCount (x .witnesses); locktime = x .locktime; bytes = bytes }
 
-  whole-codes : Codes (wholeAt room) (Formed room) contentsBytes wholeLog headBy
+  whole-codes : Codes (wholeAt room) (Formed room) contentsBytes wholeLog wholeEvents headBy
   unfolding contentsBytes
   whole-codes =
       seen-as (λ x. (x .version, (flagOf (x .witnesses), (x .inputs, (x .outputs, (x .locktime, x .witnesses))))))
@@ -295,6 +341,21 @@ module _ (room : Room) where
       inputsLog 0 (e₁ j + length (compactBytes (length (x .inputs)))) (x .inputs)
       ++ (outputsLog 0 (e₁ j + b + length (compactBytes (length (x .outputs)))) (x .outputs)
       ++ tailLog (room .items) (length (x .inputs)) (length (x .outputs)) (flagOf (x .witnesses)) (e₃ j) (x .witnesses)))
+      (λ at x g.
+      let l₁ = length-bytes little 4 (x .version) in
+      let l₂ = length-bytes little 1 (flagOf (x .witnesses)) in
+      let l₃ = length-bytes little 4 (x .locktime) in
+      let a = at + length (bytesOf little 4 (x .version)) + length (bytesOf little 1 (flagOf (x .witnesses))) in
+      let e₁ : at + 5 ≡ a = omega arith in
+      let b = length (listBytes inputBytes (x .inputs)) in
+      let c = length (listBytes outputBytes (x .outputs)) in
+      let e₃ : at + 5 + b + c + 4 ≡ a + b + c + length (bytesOf little 4 (x .locktime)) = omega arith in
+      let e₀ = sym (one-byte (flagOf (x .witnesses)) (flag-small (x .witnesses))) in
+      λ j.
+      looked (bytesOf little 4 (x .version)) ++ (looked (e₀ j)
+      ++ ((looked (compactBytes (length (x .inputs))) ++ inputsEvents 0 (e₁ j + length (compactBytes (length (x .inputs)))) (x .inputs))
+      ++ ((looked (compactBytes (length (x .outputs))) ++ outputsEvents 0 (e₁ j + b + length (compactBytes (length (x .outputs)))) (x .outputs))
+      ++ (looked (bytesOf little 4 (x .locktime)) ++ tailEvents (room .items) (length (x .inputs)) (length (x .outputs)) (flagOf (x .witnesses)) (e₃ j) (x .witnesses))))))
       (λ x g. refl)
       (λ x g.
       let rest = x .1 .1 .1 .1 in
@@ -315,9 +376,9 @@ module _ (room : Room) where
       then {Q = λ _ flag at₂ k. countAt at₂ (room .inputs) λ ins at₃. each (alone inputAt) ins 0 tt at₃ λ _ at₄. countAt at₄ (room .outputs) λ outs at₅. each (alone outputAt) outs 0 tt at₅ λ _ at₆. numberAt at₆ little 4 λ locktime at₇. tailAt (room .items) ins outs flag at₇ λ n. k (λ bytes. record { version = version; flag = flag; inputs = ins; outputs = outs; items = n; locktime = locktime; bytes = bytes })}
       (number-codes (λ at. at) little 1) λ _ flag _.
       then {Q = λ _ ins at₄ k. countAt at₄ (room .outputs) λ outs at₅. each (alone outputAt) outs 0 tt at₅ λ _ at₆. numberAt at₆ little 4 λ locktime at₇. tailAt (room .items) ins outs flag at₇ λ n. k (λ bytes. record { version = version; flag = flag; inputs = ins; outputs = outs; items = n; locktime = locktime; bytes = bytes })}
-      (list-codes inputAt InputAllowed inputBytes inputLog 0 (count-codes (room .inputs)) input-codes) λ _ ins _.
+      (list-codes inputAt InputAllowed inputBytes inputLog inputEvents 0 (count-codes (room .inputs)) input-codes) λ _ ins _.
       then {Q = λ _ outs at₆ k. numberAt at₆ little 4 λ locktime at₇. tailAt (room .items) (length ins) outs flag at₇ λ n. k (λ bytes. record { version = version; flag = flag; inputs = length ins; outputs = outs; items = n; locktime = locktime; bytes = bytes })}
-      (list-codes outputAt OutputAllowed outputBytes outputLog 0 (count-codes (room .outputs)) output-codes) λ _ outs _.
+      (list-codes outputAt OutputAllowed outputBytes outputLog outputEvents 0 (count-codes (room .outputs)) output-codes) λ _ outs _.
       then {Q = λ _ locktime at₇ k. tailAt (room .items) (length ins) (length outs) flag at₇ λ n. k (λ bytes. record { version = version; flag = flag; inputs = length ins; outputs = length outs; items = n; locktime = locktime; bytes = bytes })}
       (number-codes (λ at. at) little 4) λ _ locktime _.
       handing (λ n bytes. record { version = version; flag = flag; inputs = length ins; outputs = length outs; items = n; locktime = locktime; bytes = bytes }) (tail-codes (room .items) (length ins) (length outs) flag))
@@ -332,6 +393,14 @@ reads room x g h ys =
     ap (λ (l : Layout Head). run l (contentsBytes x ++ ys)) (whole-transaction room)
     ∙ whole-codes room .forth x g 0 (λ h at. accept (h at)) ys (omega arith)
     ∙ λ j. reading (finished (headBy room x (zero-add n j))) (add-zero n j) (append-nil (wholeLog room 0 x) j)
+
+-- and met in this order
+pub traced : (room : Room) (x : Contents) → Formed room x → length (contentsBytes x) ≤ limit → (ys : List ℕ) → trace (transaction room) (contentsBytes x ++ ys) ≡ wholeEvents room 0 x
+unfolding trace
+traced room x g h ys =
+    ap (λ (l : Layout Head). trace l (contentsBytes x ++ ys)) (whole-transaction room)
+    ∙ whole-codes room .traced x g 0 (λ h at. accept (h at)) ys (omega arith)
+    ∙ append-nil (wholeEvents room 0 x)
 
 -- what a finished reading began with
 pub record Found (room : Room) (xs : List ℕ) : Type 0 where

@@ -83,6 +83,16 @@ flagged i o n = writtenLength (head 2 1 1 1 1 0 0) (tables i o n) (hidden 103)
 abbrev witness′ : ℕ → ℕ → Verdict
 witness′ c v = flagged (set in103 c v) out103 (100 ∷ 0 ∷ [])
 
+-- the same with a second record that shows its faults at 1
+abbrev second-input : List ℕ → Verdict
+second-input i = writtenLength (head 2 0 2 1 0 0 0) (tables (in96 ++ i) out96 []) (hidden 177)
+
+abbrev second-output : List ℕ → Verdict
+second-output o = writtenLength (head 2 0 1 2 0 0 0) (tables in96 (out96 ++ o) []) (hidden 96)
+
+abbrev second-flagged : List ℕ → Verdict
+second-flagged o = writtenLength (head 2 1 1 2 1 0 0) (tables in103 (out103 ++ o) (100 ∷ 0 ∷ [])) (hidden 103)
+
 -- only heads and sizes
 abbrev headed : Verdict
 headed = writtenLength (head 2 2 1 0 0 0 0) (tables [] [] []) []
@@ -151,12 +161,32 @@ refusals : AsTold (
     plainly (set (issuing 2) 10 0) out96 116 gives unwritten 13 0 ∷
     issued 7 2 gives unwritten 13 0 ∷
     issued 11 1 gives unwritten 13 0 ∷
+    -- 13: halves of an amount whose prefix is 8 or 0, and the same without them: 202 + 24 and 202 - 8
+    issued 7 8 gives unwritten 13 0 ∷
+    plainly (set (set (set (issuing 2) 7 8) 9 0) 8 1) out96 177 gives unwritten 13 0 ∷
+    plainly (set (set (issuing 2) 7 8) 9 0) out96 177 gives wrote 226 ∷
+    issued 7 0 gives unwritten 13 0 ∷
+    plainly (set (set (issuing 2) 7 0) 9 0) out96 177 gives wrote 194 ∷
+    -- 13 at 1: the second input's keys of a prefix not listed; listed, 96 + 41 + 64 + 9 + 33
+    second-input (set (issuing 2) 10 9) gives wrote 243 ∷
+    second-input (set (issuing 2) 10 2) gives unwritten 13 1 ∷
+    second-input (set (issuing 2) 10 7) gives unwritten 13 1 ∷
+    second-input (set (issuing 2) 10 10) gives unwritten 13 1 ∷
+    second-input (set (set (issuing 2) 7 8) 8 1) gives unwritten 13 1 ∷
+    -- 13 at 1: the second output's nonce passes the source by one; within, 96 + 33 + 9 + 33 + 1
+    second-output (set (set out96 6 2) 7 63) gives wrote 172 ∷
+    second-output (set (set out96 6 2) 7 64) gives unwritten 13 1 ∷
     -- 13: the first item's index; proofs and items past the source
     witness′ 17 1 gives unwritten 13 0 ∷
     witness′ 13 103 gives wrote 103 ∷
     witness′ 13 104 gives unwritten 13 0 ∷
     witness′ 15 104 gives unwritten 13 0 ∷
     flagged in103 (set out103 12 104) (100 ∷ 0 ∷ []) gives unwritten 13 0 ∷
+    -- 13 at 1: the second output's surjection proof passes the source by one; within, 103 + 44 + 2, and 1 for a byte of it
+    second-flagged (set out103 10 103) gives wrote 149 ∷
+    second-flagged (set out103 10 104) gives unwritten 13 1 ∷
+    second-flagged (set (set out103 10 102) 11 1) gives wrote 150 ∷
+    second-flagged (set (set out103 10 102) 11 2) gives unwritten 13 1 ∷
     flagged in103 out103 (104 ∷ 0 ∷ []) gives unwritten 13 0 ∷
     flagged in103 out103 (100 ∷ 4 ∷ []) gives unwritten 13 0 ∷
     -- 13 at the number of inputs: the items don't add up
@@ -164,9 +194,11 @@ refusals : AsTold (
     writtenLength (head 2 1 0 0 1 0 0) (tables [] [] (0 ∷ 0 ∷ [])) [] gives unwritten 13 0 ∷
     -- with flag 0: an item that isn't 0, 0 stands at its number; one that is, at the number of inputs
     writtenLength (head 2 0 2 0 1 0 0) (tables (replicate 40 0) [] (0 ∷ 1 ∷ [])) (hidden 32) gives unwritten 13 0 ∷
+    writtenLength (head 2 0 2 0 1 0 0) (tables (replicate 40 0) [] (1 ∷ 0 ∷ [])) (hidden 32) gives unwritten 13 0 ∷
     writtenLength (head 2 0 2 0 1 0 0) (tables (replicate 40 0) [] (0 ∷ 0 ∷ [])) (hidden 32) gives unwritten 13 2 ∷
     -- sums that pass 2^32: no first index equals them
     writtenLength (head 2 1 2 0 0 0 0) (tables (set (set (replicate 40 0) 18 4294967295) 19 1) [] []) (hidden 32) gives unwritten 13 1 ∷
+    writtenLength (head 2 1 2 0 0 0 0) (tables (set (set (set (replicate 40 0) 18 4294967295) 19 1) 37 4294967295) [] []) (hidden 32) gives unwritten 13 1 ∷
     -- 12: its three cases, and their neighbours
     input′ 1 1073741823 gives wrote 96 ∷
     input′ 1 1073741824 gives unwritten 12 0 ∷
@@ -176,10 +208,17 @@ refusals : AsTold (
     plainly (set (set in96 1 1073741823) 2 1) out96 96 gives wrote 96 ∷
     plainly (set (issuing 2) 1 1073741823) out96 177 gives wrote 202 ∷
     plainly (set (issuing 3) 1 1073741823) out96 177 gives unwritten 12 0 ∷
+    plainly (set (issuing 2) 1 4294967295) out96 177 gives unwritten 12 0 ∷
     -- 6: an issuance without values; 13 before 12 before 6
     plainly (set (set (set (issuing 2) 7 0) 9 0) 10 0) out96 177 gives unwritten 6 0 ∷
     plainly (set (set (set (set (issuing 2) 7 0) 9 0) 10 0) 1 1073741824) out96 177 gives unwritten 12 0 ∷
     plainly (set (set (set (set (set (issuing 2) 7 0) 9 0) 10 0) 1 1073741824) 13 1) out96 177 gives unwritten 13 0 ∷
+    plainly (set (set (set (set (issuing 2) 7 0) 9 0) 10 0) 1 4294967295) out96 177 gives unwritten 12 0 ∷
+    plainly (set (set in96 0 65) 1 1073741824) out96 96 gives unwritten 13 0 ∷
+    plainly (set (set (set (issuing 2) 7 0) 9 0) 10 0) out96 108 gives unwritten 13 0 ∷
+    -- 12 and 6 at 1: the second input's
+    writtenLength (head 2 0 2 0 0 0 0) (tables (set (replicate 40 0) 21 1073741824) [] []) (hidden 32) gives unwritten 12 1 ∷
+    second-input (set (set (set (issuing 2) 7 0) 9 0) 10 0) gives unwritten 6 1 ∷
     -- record after record: the first one's 12 before the second one's 13
     writtenLength (head 2 0 2 0 0 0 0) (tables (set (set (replicate 40 0) 1 1073741824) 22 4) [] []) (hidden 32) gives unwritten 12 0 ∷
     writtenLength (head 2 0 2 0 0 0 0) (tables (set (replicate 40 0) 22 4) [] []) (hidden 32) gives unwritten 13 1 ∷
@@ -187,6 +226,12 @@ refusals : AsTold (
     plainly (set in96 1 1073741824) (set out96 0 2) 96 gives unwritten 12 0 ∷
     writtenLength (head 2 0 0 2 1 0 0) (tables [] (set (replicate 28 0) 14 2) (9 ∷ 9 ∷ [])) [] gives unwritten 13 1 ∷
     writtenLength (head 2 1 0 0 2 0 0) (tables [] [] (0 ∷ 0 ∷ 9 ∷ 9 ∷ [])) [] gives unwritten 13 1 ∷
+    -- the first of several, inputs, outputs and items alike
+    writtenLength (head 2 0 0 2 0 0 0) (tables [] (set (set (replicate 28 0) 0 2) 14 2) []) [] gives unwritten 13 0 ∷
+    writtenLength (head 2 1 0 0 2 0 0) (tables [] [] (9 ∷ 9 ∷ 9 ∷ 9 ∷ [])) [] gives unwritten 13 0 ∷
+    writtenLength (head 2 0 2 1 0 0 0) (tables (set (replicate 40 0) 2 4) (set (replicate 14 0) 0 2) []) (hidden 32) gives unwritten 13 0 ∷
+    -- a record's number isn't cut to a byte
+    writtenLength (head 2 0 0 257 0 0 0) (tables [] (replicate 3584 0 ++ (2 ∷ replicate 13 0)) []) [] gives unwritten 13 256 ∷
     output′ 12 1 gives unwritten 13 0 ∷
     -- 8, behind every 13
     writtenLength (head 2 1 1 0 0 0 0) (tables (replicate 20 0) [] []) (hidden 32) gives unwritten 8 4 ∷
@@ -260,5 +305,5 @@ verdicts = refl
 
 -- ---- the fee question
 
-fees : map isFee (out96 ∷ set out96 9 1 ∷ set out96 8 0 ∷ replicate 14 4294967295 ∷ replicate 14 0 ∷ []) ≡ true ∷ false ∷ true ∷ false ∷ true ∷ []
+fees : map isFee (out96 ∷ set out96 9 1 ∷ set out96 9 256 ∷ set out96 8 0 ∷ replicate 14 4294967295 ∷ replicate 14 0 ∷ []) ≡ true ∷ false ∷ false ∷ true ∷ false ∷ true ∷ []
 fees = refl

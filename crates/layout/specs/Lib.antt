@@ -5,11 +5,21 @@
 --     Outcome       what the caller sees: answer, bytes taken, tables; finishing (1), reading at once, the strict form (9); bearing bytes
 --     Contents      a transaction as what it holds: its bytes, and what is allowed
 --     Records       its head numbers and records
+--     Refusals      what the bytes taken show where a reading refuses
+--     Moments       when each number enters, and the tables so far
+--     Outline       what it holds, with each part that doesn't bear replaced by its length
 --     Writing       from head numbers, tables and source to bytes, or a refusal; the fee question
+--     Shows         which transaction head numbers and tables over a source show
+--     Unwritten     what they show where writing refuses
 pub mod Number
 pub mod Layout
 pub mod Transaction
 pub mod Outcome
 pub mod Contents
 pub mod Records
+pub mod Refusals
+pub mod Moments
+pub mod Outline
 pub mod Writing
+pub mod Shows
+pub mod Unwritten
