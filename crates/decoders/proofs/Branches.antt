@@ -8,7 +8,7 @@ use borrow.Author.Tests.{le-leb, lt-leb, eq-eqb, ne-eqb, eqb-false, ltb-true, lt
 use Rattle.layout.specs.Transaction.{limit, announced, least}
 use Rattle.layout.proofs.Reading.{by-cases}
 use Rattle.confidential.specs.Width.{valueWidth, assetWidth, nonceWidth}
-use Rattle.decoders.specs.Machine.{FURTHER, OPAQUE, BIG, State, field, withField, setIndex, setInputs, setOutputs, setLeft, setNull, setEmpty, inputRoom, outputRoom, itemRoom, refuse, finished, opened, number, compact, opaque, further, settled, quiet, input1, input2, output2, high, low, nextInput, nextOutput, nextInputWitness, nextScriptItem, nextPeginItem, bodyEnds, emptied, bodyEntered, bodySeen, bodyOpened, lengthSettled, inputsCounted, outputsCounted, scriptCounted, peginCounted, compactSettled, firstSettled, furtherSettled, valuePart, assetPart, noncePart, amountNext, nullKeysNext, keysNext, assetNext, valueNext, nonceNext, sequenceNext, locktimeNext, locktimeSettled, littleSettled, bigSettled, opaqueSettled, settleBy, Counted, Safe}
+use Rattle.decoders.specs.Machine.{FURTHER, OPAQUE, BIG, State, field, withField, setIndex, setInputs, setOutputs, setLeft, setNull, setEmpty, inputRoom, outputRoom, itemRoom, refuse, finished, opened, number, compact, opaque, further, furtherInput, settled, quiet, input1, input2, output2, high, low, nextInput, nextOutput, nextInputWitness, nextScriptItem, nextPeginItem, bodyEnds, emptied, bodyEntered, bodySeen, bodyOpened, lengthSettled, inputsCounted, outputsCounted, scriptCounted, peginCounted, compactSettled, firstSettled, furtherSettled, valuePart, assetPart, noncePart, amountNext, nullKeysNext, keysNext, assetNext, valueNext, nonceNext, sequenceNext, locktimeNext, locktimeSettled, littleSettled, bigSettled, opaqueSettled, settleBy, Counted, Safe}
 use Rattle.decoders.specs.Needs.{countStart, countAnnounces, countLong, countSettled}
 
 true-not-false : true ≡ false → ⊥
@@ -18,7 +18,7 @@ pub sequence-is : (s : State) → s .spot .issuance ≡ 1 → sequenceNext s ≡
 unfolding sequenceNext
 sequence-is s h = rw (eq-eqb (s .spot .issuance) 1 h)
 
-pub sequence-not : (s : State) → (s .spot .issuance ≡ 1 → ⊥) → sequenceNext s ≡ nextInput (further s)
+pub sequence-not : (s : State) → (s .spot .issuance ≡ 1 → ⊥) → sequenceNext s ≡ nextInput (furtherInput s)
 unfolding sequenceNext
 sequence-not s h = rw (ne-eqb (s .spot .issuance) 1 h)
 
@@ -34,7 +34,7 @@ pub null-keys-is : (s : State) → s .spot .null ≡ 1 → nullKeysNext s ≡ re
 unfolding nullKeysNext
 null-keys-is s h = rw (eq-eqb (s .spot .null) 1 h)
 
-pub null-keys-not : (s : State) → (s .spot .null ≡ 1 → ⊥) → nullKeysNext s ≡ nextInput (further s)
+pub null-keys-not : (s : State) → (s .spot .null ≡ 1 → ⊥) → nullKeysNext s ≡ nextInput (furtherInput s)
 unfolding nullKeysNext
 null-keys-not s h = rw (ne-eqb (s .spot .null) 1 h)
 

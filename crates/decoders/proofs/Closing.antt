@@ -84,7 +84,7 @@ module _ (s : State) where
 
   -- a finished state within its range has a head that fits
   pub range-closes : inRange s ≡ true → Closes s
-  range-closes e = record { headed = λ q. let f = range-finished s e q in omega (arith, f .kept .taken, f .kept .version, f .kept .flag, f .kept .fewer, f .kept .locktime, f .inputs, f .outputs) }
+  range-closes e = record { headed = λ q. let f = range-finished s e q in omega (arith, f .taken, f .version, f .flag, f .few-inputs, f .few-outputs, f .few-items, f .locktime) }
 
   pub refused-closes : s .field .stage ≡ 26 → Closes s
   refused-closes e = record { headed = λ q. absurd (omega arith) }

@@ -21,11 +21,11 @@ use Rattle.decoders.proofs.Settles.{settle-range}
 
 -- ---- what settling keeps, of every state: both sides of every test do
 
-cond-same : {A : Type 0} (b : Bool) (a : A) → cond b a a ≡ a
+pub cond-same : {A : Type 0} (b : Bool) (a : A) → cond b a a ≡ a
 cond-same true a = refl
 cond-same false a = refl
 
-cond-decoder : (b : Bool) (r r′ : Settled) → (cond b r r′) .decoder ≡ cond b (r .decoder) (r′ .decoder)
+pub cond-decoder : (b : Bool) (r r′ : Settled) → (cond b r r′) .decoder ≡ cond b (r .decoder) (r′ .decoder)
 cond-decoder true r r′ = refl
 cond-decoder false r r′ = refl
 
@@ -107,7 +107,7 @@ cond-case P true x y f g = f refl
 cond-case P false x y f g = g refl
 
 -- what a step comes to: nothing, a settled field, or one more byte
-step-case : (P : Machine → Type 0) (m : Machine) (b : ℕ) → P m → (m .state .field .stage ≤ 24 → m .state .field .have + 1 ≡ m .state .field .width → P (entering (settle (gather (m .state) b)) (m .tables))) → (m .state .field .stage ≤ 24 → (m .state .field .have + 1 ≡ m .state .field .width → ⊥) → P (machine (gather (m .state) b) (m .tables))) → P (step m b)
+pub step-case : (P : Machine → Type 0) (m : Machine) (b : ℕ) → P m → (m .state .field .stage ≤ 24 → m .state .field .have + 1 ≡ m .state .field .width → P (entering (settle (gather (m .state) b)) (m .tables))) → (m .state .field .stage ≤ 24 → (m .state .field .have + 1 ≡ m .state .field .width → ⊥) → P (machine (gather (m .state) b) (m .tables))) → P (step m b)
 unfolding step
 step-case P m b ended last more =
     cond-case P (leb 25 (m .state .field .stage)) _ _ (λ _. ended) λ e.

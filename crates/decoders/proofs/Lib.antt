@@ -1,4 +1,5 @@
 pub mod Advance
+pub mod Answers
 pub mod Branches
 pub mod Chain
 pub mod Closing
@@ -10,6 +11,7 @@ pub mod Laws
 pub mod Loop
 pub mod OneOutcome
 pub mod Openings
+pub mod Phases
 pub mod Ranges
 pub mod Settles
 pub mod Simulation

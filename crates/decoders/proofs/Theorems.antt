@@ -1,6 +1,6 @@
 -- What the reader promises, as the demands and document 01 say it. All of it speaks of the definitions that the contracts cite, so
 -- nothing lies between these theorems and the code. docs/THEOREMS.md says which sentence each carries.
-use Prim.Native.Nat.{ℕ, zero, suc, _+_, _-_, _*_, _<_, _≤_}
+use Prim.Native.Nat.{ℕ, zero, suc, _+_, _-_, _<_, _≤_}
 use mathlib.Core.Path.{_≡_, refl, sym, _∙_, ap, ap₂, subst}
 use mathlib.Core.Bool.{Bool, true, false, cond, _&&_}
 use mathlib.Core.List.{List, [], _∷_, _++_, append-assoc, append-nil}
@@ -8,22 +8,20 @@ use native.Mathlib.Nat.{zero-add}
 use native.Mathlib.Numerals.{add-one}
 use native.Mathlib.Omega.{arith}
 use lib.Dec.{leb, ltb, eqb}
-use lib.ListN.{length, getD, replicate, length-append}
+use lib.ListN.{length, replicate, length-append}
 use borrow.Author.Tests.{eq-eqb, ne-eqb, le-leb, lt-leb, eqb-true, eqb-false, leb-true, leb-false}
 use Rattle.layout.specs.Number.{Bytes}
 use Rattle.layout.specs.Layout as layout
-use Rattle.layout.specs.Layout.{Table}
 use Rattle.layout.specs.Transaction.{Head}
 use Rattle.layout.specs.Outcome as outcome
-use Rattle.layout.specs.Outcome.{Tables, Outcome, laid, shown, partial, atOnce, strict, readingOf, width, Agree}
+use Rattle.layout.specs.Outcome.{Tables, Outcome, laid, shown, partial, atOnce, strict, readingOf, Agree}
 use Rattle.layout.proofs.Reading.{by-cases}
-use Rattle.layout.proofs.Sound.{rowsOf, counts}
 use Rattle.layout.proofs.Theorems as of-layout
-use Rattle.layout.proofs.Theorems.{tableOf}
 use Rattle.decoders.specs.declared.Sizes.{Sizes}
 use Rattle.decoders.specs.declared.Answer.{Answer}
 use Rattle.decoders.specs.declared.Answer.the-variants.{Finished, More, Refused}
 use Rattle.decoders.specs.declared.Fed.{Fed}
+use Rattle.decoders.specs.Stages.{FINISHED}
 use Rattle.decoders.specs.Machine.{State, refuse, answerOf, machine, Machine, fed, step, fresh, gather, entering, settle}
 use Rattle.decoders.specs.Range.{inRange}
 use Rattle.decoders.specs.Feeding.{tables, sizesOf, cleared, layoutSizes, begun, told, toldNumber, toldPlace, toldHead, Out, out, outOf, gate, closed, pushed, ended, finish}
@@ -50,10 +48,6 @@ gate-bools true true h = absurd (h refl)
 gate-bools true false h = omega arith
 gate-bools false c h = omega arith
 
-not-eleven : (c : Bool) → _≡_ {A = ℕ} (cond c 0 10) 11 → ⊥
-not-eleven true e = omega arith
-not-eleven false e = omega arith
-
 gate-numbers : (s : State) (z : Sizes) → (gate s z ≡ 0 → ⊥) → 10 ≤ gate s z
 unfolding gate
 gate-numbers s z h = gate-bools (inRange s) (eqb (s .sizes .inputs) (z .inputs) && eqb (s .sizes .outputs) (z .outputs) && eqb (s .sizes .items) (z .items)) h
@@ -67,41 +61,37 @@ pub misuse-untouched-end : (s : State) (t : Tables) → (gate s (sizesOf t) ≡ 
 unfolding ended
 misuse-untouched-end s t h = rw (ne-eqb (gate s (sizesOf t)) 0 h)
 
--- 11 is given exactly to a state that fails the range test, and before 10
+-- 11 is given to every state that fails the range test, and before 10
 pub eleven-first : (s : State) (z : Sizes) → inRange s ≡ false → gate s z ≡ 11
 unfolding gate
 eleven-first s z e = rw e
 
-pub eleven-never : (s : State) (z : Sizes) → inRange s ≡ true → gate s z ≡ 11 → ⊥
-unfolding gate
-eleven-never s z e h = not-eleven (eqb (s .sizes .inputs) (z .inputs) && eqb (s .sizes .outputs) (z .outputs) && eqb (s .sizes .items) (z .items)) (rw e at h)
-
 -- what a call that is not misused gives
-pushed-open : (s : State) (t : Tables) (xs : List ℕ) → gate s (sizesOf t) ≡ 0 → pushed s t xs ≡ closed (fed (machine s t) xs .state) (fed (machine s t) xs .state .taken - s .taken) (fed (machine s t) xs .tables)
+pub pushed-open : (s : State) (t : Tables) (xs : List ℕ) → gate s (sizesOf t) ≡ 0 → pushed s t xs ≡ closed (fed (machine s t) xs .state) (fed (machine s t) xs .state .taken - s .taken) (fed (machine s t) xs .tables)
 unfolding pushed
 pushed-open s t xs e = rw (eq-eqb (gate s (sizesOf t)) 0 e)
 
-ended-open : (s : State) (t : Tables) → gate s (sizesOf t) ≡ 0 → ended s t ≡ closed (finish s) 0 t
+pub ended-open : (s : State) (t : Tables) → gate s (sizesOf t) ≡ 0 → ended s t ≡ closed (finish s) 0 t
 unfolding ended
 ended-open s t e = rw (eq-eqb (gate s (sizesOf t)) 0 e)
 
 -- and what it answers
-open-answer : (s : State) (t : Tables) (xs : List ℕ) → gate s (sizesOf t) ≡ 0 → pushed s t xs .fed .answer ≡ told (answerOf (fed (machine s t) xs .state))
+pub open-answer : (s : State) (t : Tables) (xs : List ℕ) → gate s (sizesOf t) ≡ 0 → pushed s t xs .fed .answer ≡ told (answerOf (fed (machine s t) xs .state))
 unfolding closed
 open-answer s t xs g = ap (λ (x : Out). x .fed .answer) (pushed-open s t xs g)
 
-open-answer-end : (s : State) (t : Tables) → gate s (sizesOf t) ≡ 0 → ended s t .fed .answer ≡ told (answerOf (finish s))
+pub open-answer-end : (s : State) (t : Tables) → gate s (sizesOf t) ≡ 0 → ended s t .fed .answer ≡ told (answerOf (finish s))
 unfolding closed
 open-answer-end s t g = ap (λ (x : Out). x .fed .answer) (ended-open s t g)
 
 -- a refusal is stage 26
-finished-not-refused : (h : _) (n p : ℕ) → _≡_ {A = Answer} (Finished h) (Refused n p) → ⊥
+pub finished-not-refused : (h : _) (n p : ℕ) → _≡_ {A = Answer} (Finished h) (Refused n p) → ⊥
 finished-not-refused h n p e = let z : _≡_ {A = ℕ} 0 1 = cc in omega arith
 
-more-not-refused : (n p : ℕ) → _≡_ {A = Answer} More (Refused n p) → ⊥
+pub more-not-refused : (n p : ℕ) → _≡_ {A = Answer} More (Refused n p) → ⊥
 more-not-refused n p e = let z : _≡_ {A = ℕ} 0 1 = cc in omega arith
 
-refused-stage : (s : State) (n p : ℕ) → told (answerOf s) ≡ Refused n p → eqb (s .field .stage) 26 ≡ true
+pub refused-stage : (s : State) (n p : ℕ) → told (answerOf s) ≡ Refused n p → eqb (s .field .stage) 26 ≡ true
 unfolding answerOf
 refused-stage s n p e =
     by-cases (eqb (s .field .stage) 26) (λ q. q)
@@ -113,7 +103,7 @@ closed-zero : (s : State) (k : ℕ) (t : Tables) (n p : ℕ) → closed s k t .f
 unfolding closed
 closed-zero s k t n p e = rw (refused-stage s n p e)
 
-same-number : (n m p q : ℕ) → _≡_ {A = Answer} (Refused n p) (Refused m q) → n ≡ m
+pub same-number : (n m p q : ℕ) → _≡_ {A = Answer} (Refused n p) (Refused m q) → n ≡ m
 same-number n m p q e = cc
 
 -- a refused reading leaves every number of the lent tables 0
@@ -155,17 +145,21 @@ range-kept-end s t r =
 pub range-fresh : (t : Tables) → inRange (begun t .state) ≡ true
 range-fresh t = fresh-range (sizesOf t)
 
--- a state within its range never answers 9, 10 or 11 by itself
-refused-small : (s : State) (n p : ℕ) → inRange s ≡ true → told (answerOf s) ≡ Refused n p → n ≤ 8
+pub same-place : (n m p q : ℕ) → _≡_ {A = Answer} (Refused n p) (Refused m q) → p ≡ q
+same-place n m p q e = cc
+
+-- a state within its range that answers a refusal, never 9, 10 or 11 by itself: its number and place
+pub refused-between : (s : State) (n p : ℕ) → inRange s ≡ true → told (answerOf s) ≡ Refused n p → (1 ≤ n) × (n ≤ 8) × (p ≤ s .taken)
 unfolding answerOf
-refused-small s n p r e =
+refused-between s n p r e =
     by-stage s r
     (λ o. let a : s .field .stage ≡ 25 → ⊥ = λ z. omega (arith, o .stage) in
     let b : s .field .stage ≡ 26 → ⊥ = λ z. omega (arith, o .stage) in
     absurd (more-not-refused n p (rw (ne-eqb (s .field .stage) 25 a, ne-eqb (s .field .stage) 26 b) at e)))
     (λ z _. absurd (finished-not-refused _ n p (rw (eq-eqb (s .field .stage) 25 z) at e)))
     (λ z w. let a : s .field .stage ≡ 25 → ⊥ = λ y. omega arith in
-    omega (arith, w .greatest, same-number (s .field .value) n (s .field .have) p (rw (ne-eqb (s .field .stage) 25 a, eq-eqb (s .field .stage) 26 z) at e)))
+    let same = rw (ne-eqb (s .field .stage) 25 a, eq-eqb (s .field .stage) 26 z) at e in
+    omega (arith, w .least, w .greatest, w .have, same-number (s .field .value) n (s .field .have) p same, same-place (s .field .value) n (s .field .have) p same))
 
 -- said of the answer: 9 and above leaves state and tables as they were, takes nothing, and has place 0
 pub misuse-answer : (s : State) (t : Tables) (xs : List ℕ) (n p : ℕ) → Bytes xs → pushed s t xs .fed .answer ≡ Refused n p → 9 ≤ n → pushed s t xs ≡ out s 0 (Refused n 0) t
@@ -174,7 +168,7 @@ misuse-answer s t xs n p q e big =
     by-cases (eqb (gate s (sizesOf t)) 0)
     (λ g. let z = eqb-true (gate s (sizesOf t)) 0 g in
     let o = pushed-open s t xs z in
-    let small = refused-small (fed (machine s t) xs .state) n p (fed-range (machine s t) xs q (gate-starts s t (gate s (sizesOf t)) refl z .range)) (sym (ap (λ (x : Out). x .fed .answer) o) ∙ e) in
+    let small = refused-between (fed (machine s t) xs .state) n p (fed-range (machine s t) xs q (gate-starts s t (gate s (sizesOf t)) refl z .range)) (sym (ap (λ (x : Out). x .fed .answer) o) ∙ e) in
     absurd (omega (arith, small)))
     (λ g. let m = misuse-untouched s t xs (eqb-false (gate s (sizesOf t)) 0 g) in
     m ∙ ap (λ (k : ℕ). out s 0 (Refused k 0) t) (same-number (gate s (sizesOf t)) n 0 p (sym (ap (λ (x : Out). x .fed .answer) m) ∙ e)))
@@ -185,50 +179,10 @@ misuse-answer-end s t n p e big =
     by-cases (eqb (gate s (sizesOf t)) 0)
     (λ g. let z = eqb-true (gate s (sizesOf t)) 0 g in
     let o = ended-open s t z in
-    let small = refused-small (finish s) n p (finish-closes s (gate-starts s t (gate s (sizesOf t)) refl z .range)) (sym (ap (λ (x : Out). x .fed .answer) o) ∙ e) in
+    let small = refused-between (finish s) n p (finish-closes s (gate-starts s t (gate s (sizesOf t)) refl z .range)) (sym (ap (λ (x : Out). x .fed .answer) o) ∙ e) in
     absurd (omega (arith, small)))
     (λ g. let m = misuse-untouched-end s t (eqb-false (gate s (sizesOf t)) 0 g) in
     m ∙ ap (λ (k : ℕ). out s 0 (Refused k 0) t) (same-number (gate s (sizesOf t)) n 0 p (sym (ap (λ (x : Out). x .fed .answer) m) ∙ e)))
-
--- no number above 11 is ever given
-gate-most : (b c : Bool) → cond b (cond c 0 10) 11 ≤ 11
-gate-most true true = omega arith
-gate-most true false = omega arith
-gate-most false c = omega arith
-
-gate-eleven : (s : State) (z : Sizes) → gate s z ≤ 11
-unfolding gate
-gate-eleven s z = gate-most (inRange s) (eqb (s .sizes .inputs) (z .inputs) && eqb (s .sizes .outputs) (z .outputs) && eqb (s .sizes .items) (z .items))
-
-pub number-most : (s : State) (t : Tables) (xs : List ℕ) (n p : ℕ) → Bytes xs → pushed s t xs .fed .answer ≡ Refused n p → n ≤ 11
-unfolding closed
-number-most s t xs n p q e =
-    by-cases (eqb (gate s (sizesOf t)) 0)
-    (λ g. let z = eqb-true (gate s (sizesOf t)) 0 g in
-    omega (arith, refused-small (fed (machine s t) xs .state) n p (fed-range (machine s t) xs q (gate-starts s t (gate s (sizesOf t)) refl z .range)) (sym (ap (λ (x : Out). x .fed .answer) (pushed-open s t xs z)) ∙ e)))
-    (λ g. omega (arith, gate-eleven s (sizesOf t), same-number (gate s (sizesOf t)) n 0 p (sym (ap (λ (x : Out). x .fed .answer) (misuse-untouched s t xs (eqb-false (gate s (sizesOf t)) 0 g))) ∙ e)))
-
-pub number-most-end : (s : State) (t : Tables) (n p : ℕ) → ended s t .fed .answer ≡ Refused n p → n ≤ 11
-unfolding closed
-number-most-end s t n p e =
-    by-cases (eqb (gate s (sizesOf t)) 0)
-    (λ g. let z = eqb-true (gate s (sizesOf t)) 0 g in
-    omega (arith, refused-small (finish s) n p (finish-closes s (gate-starts s t (gate s (sizesOf t)) refl z .range)) (sym (ap (λ (x : Out). x .fed .answer) (ended-open s t z)) ∙ e)))
-    (λ g. omega (arith, gate-eleven s (sizesOf t), same-number (gate s (sizesOf t)) n 0 p (sym (ap (λ (x : Out). x .fed .answer) (misuse-untouched-end s t (eqb-false (gate s (sizesOf t)) 0 g))) ∙ e)))
-
--- 11 is never given to a state that a call with another answer returned
-range-from : (s : State) (t : Tables) (o : Out) → (gate s (sizesOf t) ≡ 11 → o .fed .answer ≡ Refused 11 0) → (o .fed .answer ≡ Refused 11 0 → ⊥) → inRange s ≡ true
-range-from s t o f h = by-cases (inRange s) (λ e. e) (λ e. absurd (h (f (eleven-first s (sizesOf t) e))))
-
-pub eleven-after : (s : State) (t : Tables) (xs : List ℕ) → Bytes xs → (pushed s t xs .fed .answer ≡ Refused 11 0 → ⊥) → (z : Sizes) → gate (pushed s t xs .fed .decoder) z ≡ 11 → ⊥
-eleven-after s t xs q h z =
-    eleven-never (pushed s t xs .fed .decoder) z (range-kept s t xs q (range-from s t (pushed s t xs)
-    (λ g. ap (λ (x : Out). x .fed .answer) (misuse-untouched s t xs (λ e. omega (arith, e, g))) ∙ ap (λ (n : ℕ). Refused n 0) g) h))
-
-pub eleven-after-end : (s : State) (t : Tables) → (ended s t .fed .answer ≡ Refused 11 0 → ⊥) → (z : Sizes) → gate (ended s t .fed .decoder) z ≡ 11 → ⊥
-eleven-after-end s t h z =
-    eleven-never (ended s t .fed .decoder) z (range-kept-end s t (range-from s t (ended s t)
-    (λ g. ap (λ (x : Out). x .fed .answer) (misuse-untouched-end s t (λ e. omega (arith, e, g))) ∙ ap (λ (n : ℕ). Refused n 0) g) h))
 
 -- a state within its range and tables of its own sizes are let through
 pub gate-zero : (s : State) (z : Sizes) → inRange s ≡ true → s .sizes ≡ z → gate s z ≡ 0
@@ -237,7 +191,7 @@ gate-zero s z r e =
     rw (r, eq-eqb (s .sizes .inputs) (z .inputs) (ap (λ (x : Sizes). x .inputs) e), eq-eqb (s .sizes .outputs) (z .outputs) (ap (λ (x : Sizes). x .outputs) e), eq-eqb (s .sizes .items) (z .items) (ap (λ (x : Sizes). x .items) e))
 
 -- of a state within its range, 10 is given exactly where the sizes differ
-gate-known : (s : State) (z : Sizes) → inRange s ≡ true → (gate s z ≡ 0 → ⊥) → gate s z ≡ 10
+pub gate-known : (s : State) (z : Sizes) → inRange s ≡ true → (gate s z ≡ 0 → ⊥) → gate s z ≡ 10
 unfolding gate
 gate-known s z r h =
     by-cases (eqb (s .sizes .inputs) (z .inputs) && eqb (s .sizes .outputs) (z .outputs) && eqb (s .sizes .items) (z .items))
@@ -246,23 +200,6 @@ gate-known s z r h =
 
 pub ten-exactly : (s : State) (t : Tables) → inRange s ≡ true → ((s .sizes ≡ sizesOf t → ⊥) → gate s (sizesOf t) ≡ 10) × (gate s (sizesOf t) ≡ 10 → s .sizes ≡ sizesOf t → ⊥)
 ten-exactly s t r = ((λ h. gate-known s (sizesOf t) r (λ z. h (gate-starts s t (gate s (sizesOf t)) refl z .sizes))), (λ g e. omega (arith, g, gate-zero s (sizesOf t) r e)))
-
--- said of the answer: 10 is never given where the sizes are the state's own
-pub ten-answer : (s : State) (t : Tables) (xs : List ℕ) (p : ℕ) → Bytes xs → pushed s t xs .fed .answer ≡ Refused 10 p → s .sizes ≡ sizesOf t → ⊥
-ten-answer s t xs p q e same =
-    by-cases (inRange s)
-    (λ r. let g = gate-zero s (sizesOf t) r same in
-    absurd (omega (arith, refused-small (fed (machine s t) xs .state) 10 p (fed-range (machine s t) xs q r) (sym (open-answer s t xs g) ∙ e))))
-    (λ r. let g = eleven-first s (sizesOf t) r in
-    absurd (omega (arith, g, same-number (gate s (sizesOf t)) 10 0 p (sym (ap (λ (x : Out). x .fed .answer) (misuse-untouched s t xs (λ z. omega (arith, z, g)))) ∙ e))))
-
-pub ten-answer-end : (s : State) (t : Tables) (p : ℕ) → ended s t .fed .answer ≡ Refused 10 p → s .sizes ≡ sizesOf t → ⊥
-ten-answer-end s t p e same =
-    by-cases (inRange s)
-    (λ r. let g = gate-zero s (sizesOf t) r same in
-    absurd (omega (arith, refused-small (finish s) 10 p (finish-closes s r) (sym (open-answer-end s t g) ∙ e))))
-    (λ r. let g = eleven-first s (sizesOf t) r in
-    absurd (omega (arith, g, same-number (gate s (sizesOf t)) 10 0 p (sym (ap (λ (x : Out). x .fed .answer) (misuse-untouched-end s t (λ z. omega (arith, z, g)))) ∙ e))))
 
 -- every call keeps the sizes, so they stay the fresh start's
 pub sizes-kept : (s : State) (t : Tables) (xs : List ℕ) → pushed s t xs .fed .decoder .sizes ≡ s .sizes
@@ -283,18 +220,18 @@ sizes-kept-end s t =
 none-taken : (n : ℕ) → n - n ≡ 0
 none-taken n = omega arith
 
-pub ended-repeats : (s : State) (t : Tables) (xs : List ℕ) → gate s (sizesOf t) ≡ 0 → 25 ≤ s .field .stage → pushed s t xs ≡ closed s 0 t
+pub ended-repeats : (s : State) (t : Tables) (xs : List ℕ) → gate s (sizesOf t) ≡ 0 → FINISHED ≤ s .field .stage → pushed s t xs ≡ closed s 0 t
 ended-repeats s t xs g h =
     pushed-open s t xs g
     ∙ ap (λ (m : Machine). closed (m .state) (m .state .taken - s .taken) (m .tables)) (fed-ended (machine s t) xs h)
     ∙ ap (λ (n : ℕ). closed s n t) (none-taken (s .taken))
 
-pub ended-repeats-end : (s : State) (t : Tables) → gate s (sizesOf t) ≡ 0 → 25 ≤ s .field .stage → ended s t ≡ closed s 0 t
+pub ended-repeats-end : (s : State) (t : Tables) → gate s (sizesOf t) ≡ 0 → FINISHED ≤ s .field .stage → ended s t ≡ closed s 0 t
 unfolding finish
 ended-repeats-end s t g h = ended-open s t g ∙ ap (λ (x : State). closed x 0 t) (rw (le-leb 25 (s .field .stage) h))
 
 -- a finished reading leaves the tables, whatever stands in them
-pub finished-leaves : (s : State) (t : Tables) (xs : List ℕ) → gate s (sizesOf t) ≡ 0 → s .field .stage ≡ 25 → (pushed s t xs .tables ≡ t) × (ended s t .tables ≡ t)
+pub finished-leaves : (s : State) (t : Tables) (xs : List ℕ) → gate s (sizesOf t) ≡ 0 → s .field .stage ≡ FINISHED → (pushed s t xs .tables ≡ t) × (ended s t .tables ≡ t)
 unfolding closed
 finished-leaves s t xs g e =
     let n : s .field .stage ≡ 26 → ⊥ = λ q. omega arith in
@@ -382,7 +319,7 @@ call-within s t xs =
     subst (λ (x : Out). x .fed .taken ≤ length xs) (sym o) (omega (arith, fed-taken (machine s t) xs .most)))
     (λ g. subst (λ (x : Out). x .fed .taken ≤ length xs) (sym (misuse-untouched s t xs (eqb-false (gate s (sizesOf t)) 0 g))) (omega arith))
 
-finished-not-more : (h : _) → _≡_ {A = Answer} (Finished h) More → ⊥
+pub finished-not-more : (h : _) → _≡_ {A = Answer} (Finished h) More → ⊥
 finished-not-more h e = let z : _≡_ {A = ℕ} 0 1 = cc in omega arith
 
 more-runs : (s : State) → inRange s ≡ true → told (answerOf s) ≡ More → s .field .stage < 25
@@ -404,7 +341,7 @@ piece-entire s t xs q e =
     (λ g. absurd (more-not-refused _ _ (sym (sym (ap (λ (x : Out). x .fed .answer) (misuse-untouched s t xs (eqb-false (gate s (sizesOf t)) 0 g))) ∙ e))))
 
 -- while more is wanted an empty piece changes nothing
-pub empty-nothing : (s : State) (t : Tables) → gate s (sizesOf t) ≡ 0 → s .field .stage < 25 → pushed s t [] ≡ out s 0 More t
+pub empty-nothing : (s : State) (t : Tables) → gate s (sizesOf t) ≡ 0 → s .field .stage < FINISHED → pushed s t [] ≡ out s 0 More t
 unfolding fed closed answerOf
 empty-nothing s t g h =
     let a : s .field .stage ≡ 25 → ⊥ = λ p. omega arith in
@@ -547,7 +484,7 @@ module _ (t : Tables) (xs : List ℕ) (q : Bytes xs) where
   partial-lengths : Lengths t (partial (layoutSizes t) xs .tables)
   partial-lengths = subst (λ (x : Tables). Lengths t x) (sym partial-as) (cond-lengths (eqb (after t xs q .state .field .stage) 26) t (cleared left) left (then-lengths t left (cleared left) left-lengths (zero-lengths left)) left-lengths)
 
-  taken-as : after t xs q .state .taken ≡ partial (layoutSizes t) xs .taken
+  pub taken-as : after t xs q .state .taken ≡ partial (layoutSizes t) xs .taken
   taken-as = reads t xs q .taken ∙ zero-add (reading t xs q .taken)
 
   pub held-passes : gate (after t xs q .state) (sizesOf (partial (layoutSizes t) xs .tables)) ≡ 0
@@ -592,7 +529,7 @@ module _ (t : Tables) (xs : List ℕ) (q : Bytes xs) where
       ∙ ap (λ (x : Tables). out (finish (after t xs q .state)) 0 (told (atOnce (layoutSizes t) xs .answer)) x) (shown-finish (reading t xs q .answer) (reading t xs q .taken) (laid (reading t xs q .log) (cleared t)) (cleared t))
 
 -- all bytes of a longer list are bytes
-bytes-front : (xs ys : List ℕ) → Bytes (xs ++ ys) → Bytes xs
+pub bytes-front : (xs ys : List ℕ) → Bytes (xs ++ ys) → Bytes xs
 bytes-front [] ys q i = omega arith
 bytes-front (x ∷ xs) ys q zero = q zero
 bytes-front (x ∷ xs) ys q (suc i) = bytes-front xs ys (λ j. q (suc j)) i
@@ -627,7 +564,7 @@ unfoldable pub counted : Held → List (List ℕ) → ℕ
 counted h [] = 0
 counted h (p ∷ ps) = pushed (h .state) (h .tables) p .fed .taken + counted (handed (pushed (h .state) (h .tables) p)) ps
 
-counted-on : (ps : List (List ℕ)) (h : Held) → feeding h ps .state .taken ≡ h .state .taken + counted h ps
+pub counted-on : (ps : List (List ℕ)) (h : Held) → feeding h ps .state .taken ≡ h .state .taken + counted h ps
 unfolding feeding counted
 counted-on [] h = omega arith
 counted-on (p ∷ ps) h = omega (arith, counted-on ps (handed (pushed (h .state) (h .tables) p)), call-counts (h .state) (h .tables) p)
@@ -668,13 +605,3 @@ demand-3 t t′ ps ps′ e a q q′ = (
 -- after its last byte a reading is finished at once
 pub ends-at-once : (t : Tables) (ps : List (List ℕ)) (p : List ℕ) (q : Bytes (join ps ++ p)) (h : Head) → readingOf (layoutSizes t) (join ps ++ p) .answer ≡ layout.finished h → let d = feeding (started t) ps in pushed (d .state) (d .tables) p .fed .answer ≡ told (layout.finished h)
 ends-at-once t ps p q h e = feeding-reads t ps p q .0 ∙ ap told e
-
--- a finished reading leaves 0 behind its last record, in all three tables, surplus numbers included
-pub finished-zero-behind : (t : Tables) (ps : List (List ℕ)) (q : Bytes (join ps)) (h : Head) → readingOf (layoutSizes t) (join ps) .answer ≡ layout.finished h → (k : Table) (j : ℕ) → width k * rowsOf k (counts h) ≤ j → getD (tableOf k (feeding (started t) ps .tables)) j 0 ≡ 0
-finished-zero-behind t ps q h e k j past =
-    ap (λ (x : Tables). getD (tableOf k x) j 0) (feeding-held t ps q .1) ∙ of-layout.zero-behind (layoutSizes t) (join ps) q h e k j past
-
--- and after finishing
-pub finished-zero-behind-end : (t : Tables) (ps : List (List ℕ)) (q : Bytes (join ps)) (h : Head) → atOnce (layoutSizes t) (join ps) .answer ≡ layout.finished h → (k : Table) (j : ℕ) → width k * rowsOf k (counts h) ≤ j → getD (tableOf k (finished (feeding (started t) ps) .tables)) j 0 ≡ 0
-finished-zero-behind-end t ps q h e k j past =
-    ap (λ (x : Tables). getD (tableOf k x) j 0) (finishing-reads t ps q .tables) ∙ of-layout.zero-behind-at-once (layoutSizes t) (join ps) q h e k j past

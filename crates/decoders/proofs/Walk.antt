@@ -225,9 +225,9 @@ and-false true = refl
 and-false false = refl
 
 module _ (z : Sizes) (c : Counts) (i l e : ℕ) where
-  -- what follows an input, whatever its issuance left in the spot
+  -- what follows an input: nothing is kept of its issuance
   abbrev EndsInput : ℕ → (ℕ → Layout Head) → Type 0
-  EndsInput at k = (g : Field) (s n at′ : ℕ) → at < at′ → At at′ (quiet (nextInput (m.further (on g at′ z c (sp i l s n e))))) (k at′)
+  EndsInput at k = (g : Field) (at′ : ℕ) → at < at′ → At at′ (quiet (nextInput (on g at′ z c (sp (i + 1) l 0 0 e)))) (k at′)
 
   -- the keys, behind an amount of prefix v; 66 bytes lie between a null issuance's start and its end
   keys-at : (g : Field) (at at₃ s v : ℕ) (k : ℕ → Layout Head) → at < at₃ → (eqb v 0 ≡ true → at₃ ≡ at + 65) → EndsInput at k → At at₃ (quiet (opened at₃ 10 LITTLE 1 (on g at₃ z c (sp i l s (asNumber (eqb v 0)) e)))) (valueAt at₃ (λ p _. entry input i 10 (p ∷ [])) (λ high low. entry input i 11 (high ∷ low ∷ [])) λ keys at₄. cond (eqb v 0 && eqb keys 0) (refuse 6 at) (k at₄))
@@ -235,16 +235,16 @@ module _ (z : Sizes) (c : Counts) (i l e : ℕ) where
   keys-at g at at₃ s v k less start next =
       value-at 10 (lit< tt) g at₃ z c p p _ _ _
       (record {
-        null = λ w. cond (eqb (asNumber (eqb v 0)) 1) (m.refuse 6 (at₃ + 1 - 66) (st 10 LITTLE 1 1 w (at₃ + 1) z c p)) (nextInput (m.further (st 10 LITTLE 1 1 w (at₃ + 1) z c p)));
+        null = λ w. cond (eqb (asNumber (eqb v 0)) 1) (m.refuse 6 (at₃ + 1 - 66) (st 10 LITTLE 1 1 w (at₃ + 1) z c p)) (nextInput (m.furtherInput (st 10 LITTLE 1 1 w (at₃ + 1) z c p)));
         entry = λ w. m.input1 10 w (st 10 LITTLE 1 1 w (at₃ + 1) z c p);
         prefix = λ w. refl;
         entered = λ w t. refl;
         nulls = λ w e′.
             by-cases (eqb v 0)
             (λ q. let back : at₃ + 1 - 66 ≡ at = omega (arith, start q) in rw (q, e′) (as-state (ap (λ (place : ℕ). m.refuse 6 place (st 10 LITTLE 1 1 w (at₃ + 1) z c (sp i l s 1 e))) back) (refuse-at 6 at (st 10 LITTLE 1 1 w (at₃ + 1) z c (sp i l s 1 e)))))
-            (λ q. rw q (next (field 10 LITTLE 1 1 w) s 0 (at₃ + 1) (omega arith)));
-        explicit = λ w n at′ less′ e′. enters (input-two i 11 (n / 2 ^ 32) (n % 2 ^ 32)) (not-null w e′ (next _ _ _ at′ (omega arith)));
-        part = λ w at′ less′ e′. not-null w e′ (next _ _ _ at′ (omega arith));
+            (λ q. rw q (next (field 10 LITTLE 1 1 w) (at₃ + 1) (omega arith)));
+        explicit = λ w n at′ less′ e′. enters (input-two i 11 (n / 2 ^ 32) (n % 2 ^ 32)) (not-null w e′ (next _ at′ (omega arith)));
+        part = λ w at′ less′ e′. not-null w e′ (next _ at′ (omega arith));
       })
     where
       p : Spot
@@ -293,8 +293,8 @@ module _ (z : Sizes) (c : Counts) (i l e : ℕ) where
             number-at 6 (lit< tt) g at′ z c _ at′ LITTLE 4 little _ (omega arith) (λ _. refl) λ sequence _.
             enters (λ t. refl)
             (cond-at (eqb (flagBit 31 raw) 1)
-            (λ _. issuance-at _ (at′ + 4) _ _ k (λ g s n at″ less′. next g s n at″ (omega arith)))
-            (λ _. next _ _ _ (at′ + 4) (omega arith)));
+            (λ _. issuance-at _ (at′ + 4) _ _ k (λ g at″ less′. next g at″ (omega arith)))
+            (λ _. next _ (at′ + 4) (omega arith)));
       })
       _)))
 
@@ -311,9 +311,9 @@ unfolding each
 inputs-at z c l e k next zero i g s n at h = as-state (inputs-end (on g at z c (sp i l s n e)) (omega arith)) (next g i s n at)
 inputs-at z c l e k next (suc count) i g s n at h =
     as-state (next-input (on g at z c (sp i l s n e)) (omega arith))
-    (input-at z c i l e g at s n _ λ g′ s′ n′ at′ less.
-    as-state (ap (λ (j : ℕ). nextInput (on g′ at′ z c (sp j l s′ n′ e))) (add-one i))
-    (inputs-at z c l e k next count (suc i) g′ s′ n′ at′ (omega arith)))
+    (input-at z c i l e g at s n _ λ g′ at′ less.
+    as-state (ap (λ (j : ℕ). nextInput (on g′ at′ z c (sp j l 0 0 e))) (add-one i))
+    (inputs-at z c l e k next count (suc i) g′ 0 0 at′ (omega arith)))
 
 -- ---- outputs
 

@@ -15,6 +15,7 @@ use Rattle.decoders.specs.declared.Answer.{Answer}
 use Rattle.decoders.specs.declared.Answer.the-variants.{Finished, More, Refused}
 use Rattle.decoders.specs.declared.Fed.{Fed}
 use Rattle.decoders.specs.declared.Read.{Read}
+use Rattle.decoders.specs.Stages.{FINISHED, REFUSED}
 use Rattle.decoders.specs.Machine.{State, refuse, Machine, machine, fed, answerOf, fresh}
 use Rattle.decoders.specs.Range.{inRange}
 
@@ -71,7 +72,7 @@ gate s z = cond (inRange s) (cond (eqb (s .sizes .inputs) (z .inputs) && eqb (s 
 
 -- a call ends: a refused reading's tables are 0
 unfoldable pub closed : State → ℕ → Tables → Out
-closed s n t = out s n (told (answerOf s)) (cond (eqb (s .field .stage) 26) (cleared t) t)
+closed s n t = out s n (told (answerOf s)) (cond (eqb (s .field .stage) REFUSED) (cleared t) t)
 
 -- the fresh start
 abbrev pub begun : Tables → Machine
@@ -86,11 +87,11 @@ pushed s t xs =
 
 -- finishing: 1 where more is wanted
 unfoldable pub finish : State → State
-finish s = cond (leb 25 (s .field .stage)) s (refuse 1 (s .taken) s)
+finish s = cond (leb FINISHED (s .field .stage)) s (refuse 1 (s .taken) s)
 
 -- the strict form: 9 where bytes follow
 unfoldable pub follow : ℕ → State → State
-follow there s = cond (eqb (s .field .stage) 25) (cond (ltb (s .taken) there) (refuse 9 (s .taken) s) s) s
+follow there s = cond (eqb (s .field .stage) FINISHED) (cond (ltb (s .taken) there) (refuse 9 (s .taken) s) s) s
 
 unfoldable pub ended : State → Tables → Out
 ended s t = cond (eqb (gate s (sizesOf t)) 0) (closed (finish s) 0 t) (out s 0 (Refused (gate s (sizesOf t)) 0) t)

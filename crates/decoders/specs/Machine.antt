@@ -16,6 +16,7 @@ use Rattle.decoders.specs.declared.Spot.{Spot}
 use Rattle.decoders.specs.declared.Entered.{Entered}
 use Rattle.decoders.specs.declared.Settled.{Settled}
 use Rattle.decoders.specs.declared.TransactionDecoder.{TransactionDecoder}
+use Rattle.decoders.specs.Stages.{VERSION, FLAG, INPUT-COUNT, TXID, VOUT, INPUT-SCRIPT, SEQUENCE, BLINDING-NONCE, ENTROPY, ISSUANCE-AMOUNT, INFLATION-KEYS, OUTPUT-COUNT, ASSET, VALUE, NONCE, OUTPUT-SCRIPT, LOCKTIME, AMOUNT-PROOF, KEYS-PROOF, SCRIPT-COUNT, SCRIPT-ITEM, PEGIN-COUNT, PEGIN-ITEM, SURJECTION-PROOF, RANGE-PROOF, FINISHED, REFUSED}
 
 -- ---- a field's forms: a count's or length's further bytes and its first byte, bytes that are never looked at, numbers
 
@@ -101,16 +102,16 @@ itemRoom s = min (s .sizes .items / 2) 4294967295
 abbrev pub refuse : ℕ → ℕ → State → State
 refuse n place s =
     record {
-      field = field 26 0 0 place n;
+      field = field REFUSED 0 0 place n;
       taken = s .taken;
       sizes = s .sizes;
       counts = record { version = 0; flag = 0; inputs = 0; outputs = 0; items = 0; locktime = 0 };
       spot = record { index = 0; left = 0; issuance = 0; null = 0; empty = 0 };
     }
 
--- Stage 25: finished.
+-- Stage 25: finished; all but the head numbers is 0.
 abbrev pub finished : State → State
-finished s = withField (field 25 0 0 0 0) s
+finished s = withField (field FINISHED 0 0 0 0) (withSpot (record { index = 0; left = 0; issuance = 0; null = 0; empty = 0 }) s)
 
 -- A field is opened behind the bytes taken, or refused by number 2.
 unfoldable pub opened : ℕ → ℕ → ℕ → ℕ → State → State
@@ -128,28 +129,32 @@ opaque stage s = opened (s .taken) stage OPAQUE 32 s
 -- ---- what follows a record, an item, a body
 
 unfoldable pub nextInput : State → State
-nextInput s = cond (ltb (s .spot .index) (s .counts .inputs)) (opaque 3 s) (compact 11 s)
+nextInput s = cond (ltb (s .spot .index) (s .counts .inputs)) (opaque TXID s) (compact OUTPUT-COUNT s)
 
 unfoldable pub nextOutput : State → State
-nextOutput s = cond (ltb (s .spot .index) (s .counts .outputs)) (number 12 1 s) (number 16 4 s)
+nextOutput s = cond (ltb (s .spot .index) (s .counts .outputs)) (number ASSET 1 s) (number LOCKTIME 4 s)
 
 unfoldable pub witnessesEnd : State → State
 witnessesEnd s = cond (eqb (s .spot .empty) 1) (refuse 8 4 s) (finished s)
 
 unfoldable pub nextOutputWitness : State → State
-nextOutputWitness s = cond (ltb (s .spot .index) (s .counts .outputs)) (compact 23 s) (witnessesEnd s)
+nextOutputWitness s = cond (ltb (s .spot .index) (s .counts .outputs)) (compact SURJECTION-PROOF s) (witnessesEnd s)
 
 unfoldable pub nextInputWitness : State → State
-nextInputWitness s = cond (ltb (s .spot .index) (s .counts .inputs)) (compact 17 s) (nextOutputWitness (setIndex 0 s))
+nextInputWitness s = cond (ltb (s .spot .index) (s .counts .inputs)) (compact AMOUNT-PROOF s) (nextOutputWitness (setIndex 0 s))
 
 abbrev pub further : State → State
 further s = setIndex (s .spot .index + 1) s
 
+-- behind an input nothing is kept of its issuance
+abbrev pub furtherInput : State → State
+furtherInput s = setIssuance 0 (setNull 0 (further s))
+
 unfoldable pub nextScriptItem : State → State
-nextScriptItem s = cond (ltb 0 (s .spot .left)) (compact 20 s) (compact 21 s)
+nextScriptItem s = cond (ltb 0 (s .spot .left)) (compact SCRIPT-ITEM s) (compact PEGIN-COUNT s)
 
 unfoldable pub nextPeginItem : State → State
-nextPeginItem s = cond (ltb 0 (s .spot .left)) (compact 22 s) (nextInputWitness (further s))
+nextPeginItem s = cond (ltb 0 (s .spot .left)) (compact PEGIN-ITEM s) (nextInputWitness (further s))
 
 abbrev pub itemEnds : State → State
 itemEnds s = setItems (s .counts .items + 1) (setLeft (s .spot .left - 1) s)
@@ -157,13 +162,13 @@ itemEnds s = setItems (s .counts .items + 1) (setLeft (s .spot .left - 1) s)
 -- by the body's stage
 unfoldable pub bodyEnds : ℕ → State → State
 bodyEnds stage s =
-    cond (eqb stage 5) (number 6 4 s) ▸
-    cond (eqb stage 15) (nextOutput (further s)) ▸
-    cond (eqb stage 17) (compact 18 s) ▸
-    cond (eqb stage 18) (compact 19 s) ▸
-    cond (eqb stage 20) (nextScriptItem (itemEnds s)) ▸
-    cond (eqb stage 22) (nextPeginItem (itemEnds s)) ▸
-    cond (eqb stage 23) (compact 24 s) ▸
+    cond (eqb stage INPUT-SCRIPT) (number SEQUENCE 4 s) ▸
+    cond (eqb stage OUTPUT-SCRIPT) (nextOutput (further s)) ▸
+    cond (eqb stage AMOUNT-PROOF) (compact KEYS-PROOF s) ▸
+    cond (eqb stage KEYS-PROOF) (compact SCRIPT-COUNT s) ▸
+    cond (eqb stage SCRIPT-ITEM) (nextScriptItem (itemEnds s)) ▸
+    cond (eqb stage PEGIN-ITEM) (nextPeginItem (itemEnds s)) ▸
+    cond (eqb stage SURJECTION-PROOF) (compact RANGE-PROOF s) ▸
     nextOutputWitness (further s)
 
 -- ---- what enters the tables
@@ -198,17 +203,17 @@ emptied n s = cond (eqb n 0) s (setEmpty 0 s)
 -- a body's position and length, by its stage
 unfoldable pub bodyEntered : ℕ → ℕ → State → Entered
 bodyEntered stage n s =
-    cond (eqb stage 5) (input2 3 (s .taken) n s) ▸
-    cond (eqb stage 15) (output2 8 (s .taken) n s) ▸
-    cond (eqb stage 17) (input2 13 (s .taken) n s) ▸
-    cond (eqb stage 18) (input2 15 (s .taken) n s) ▸
-    cond (eqb stage 20 || eqb stage 22) (item2 (s .taken) n s) ▸
-    cond (eqb stage 23) (output2 10 (s .taken) n s) ▸
+    cond (eqb stage INPUT-SCRIPT) (input2 3 (s .taken) n s) ▸
+    cond (eqb stage OUTPUT-SCRIPT) (output2 8 (s .taken) n s) ▸
+    cond (eqb stage AMOUNT-PROOF) (input2 13 (s .taken) n s) ▸
+    cond (eqb stage KEYS-PROOF) (input2 15 (s .taken) n s) ▸
+    cond (eqb stage SCRIPT-ITEM || eqb stage PEGIN-ITEM) (item2 (s .taken) n s) ▸
+    cond (eqb stage SURJECTION-PROOF) (output2 10 (s .taken) n s) ▸
     output2 12 (s .taken) n s
 
 -- a proof's length bears on whether the witnesses are empty
 unfoldable pub bodySeen : ℕ → ℕ → State → State
-bodySeen stage n s = cond (eqb stage 17 || eqb stage 18 || eqb stage 23 || eqb stage 24) (emptied n s) s
+bodySeen stage n s = cond (eqb stage AMOUNT-PROOF || eqb stage KEYS-PROOF || eqb stage SURJECTION-PROOF || eqb stage RANGE-PROOF) (emptied n s) s
 
 unfoldable pub bodyOpened : ℕ → ℕ → State → State
 bodyOpened stage n s = cond (eqb n 0) (bodyEnds stage s) (withField (field stage OPAQUE n 0 0) s)
@@ -241,10 +246,10 @@ peginCounted start n s =
 -- by the count's or length's stage, with its start and value
 unfoldable pub compactSettled : ℕ → ℕ → ℕ → State → Settled
 compactSettled stage start n s =
-    cond (eqb stage 2) (inputsCounted start n s) ▸
-    cond (eqb stage 11) (outputsCounted start n s) ▸
-    cond (eqb stage 19) (scriptCounted start n s) ▸
-    cond (eqb stage 21) (peginCounted start n s) ▸
+    cond (eqb stage INPUT-COUNT) (inputsCounted start n s) ▸
+    cond (eqb stage OUTPUT-COUNT) (outputsCounted start n s) ▸
+    cond (eqb stage SCRIPT-COUNT) (scriptCounted start n s) ▸
+    cond (eqb stage PEGIN-COUNT) (peginCounted start n s) ▸
     lengthSettled stage start n s
 
 unfoldable pub firstSettled : State → Settled
@@ -275,23 +280,23 @@ noncePart s = cond (eqb (nonceWidth (s .field .value)) 33) (opaque (s .field .st
 
 -- an issuance's amount: whether it is null is kept for the keys
 unfoldable pub amountNext : State → State
-amountNext s = cond (eqb (s .field .value) 0) (number 10 1 (setNull 1 s)) (valuePart (setNull 0 s))
+amountNext s = cond (eqb (s .field .value) 0) (number INFLATION-KEYS 1 (setNull 1 s)) (valuePart (setNull 0 s))
 
 -- 6 is placed at the issuance's start, 66 bytes before the end of a null one
 unfoldable pub nullKeysNext : State → State
-nullKeysNext s = cond (eqb (s .spot .null) 1) (refuse 6 (s .taken - 66) s) (nextInput (further s))
+nullKeysNext s = cond (eqb (s .spot .null) 1) (refuse 6 (s .taken - 66) s) (nextInput (furtherInput s))
 
 unfoldable pub keysNext : State → State
 keysNext s = cond (eqb (s .field .value) 0) (nullKeysNext s) (valuePart s)
 
 unfoldable pub assetNext : State → State
-assetNext s = cond (eqb (s .field .value) 0) (number 13 1 s) (assetPart s)
+assetNext s = cond (eqb (s .field .value) 0) (number VALUE 1 s) (assetPart s)
 
 unfoldable pub valueNext : State → State
-valueNext s = cond (eqb (s .field .value) 0) (number 14 1 s) (valuePart s)
+valueNext s = cond (eqb (s .field .value) 0) (number NONCE 1 s) (valuePart s)
 
 unfoldable pub nonceNext : State → State
-nonceNext s = cond (eqb (s .field .value) 0) (compact 15 s) (noncePart s)
+nonceNext s = cond (eqb (s .field .value) 0) (compact OUTPUT-SCRIPT s) (noncePart s)
 
 abbrev pub high : State → ℕ
 high s = s .field .value / 2 ^ 32
@@ -302,7 +307,7 @@ low s = s .field .value % 2 ^ 32
 -- ---- by form and stage
 
 unfoldable pub sequenceNext : State → State
-sequenceNext s = cond (eqb (s .spot .issuance) 1) (opaque 7 s) (nextInput (further s))
+sequenceNext s = cond (eqb (s .spot .issuance) 1) (opaque BLINDING-NONCE s) (nextInput (furtherInput s))
 
 unfoldable pub locktimeNext : State → State
 locktimeNext s =
@@ -311,13 +316,13 @@ locktimeNext s =
     refuse 7 4 s
 
 abbrev pub versionSettled : State → Settled
-versionSettled s = quiet (number 1 1 (setVersion (s .field .value) s))
+versionSettled s = quiet (number FLAG 1 (setVersion (s .field .value) s))
 
 abbrev pub flagSettled : State → Settled
-flagSettled s = quiet (compact 2 (setFlag (s .field .value) s))
+flagSettled s = quiet (compact INPUT-COUNT (setFlag (s .field .value) s))
 
 abbrev pub voutSettled : State → Settled
-voutSettled s = settled (compact 5 (setIssuance (flagBit 31 (s .field .value)) s)) (input2 1 (vout (s .field .value)) (flags (s .field .value)) s)
+voutSettled s = settled (compact INPUT-SCRIPT (setIssuance (flagBit 31 (s .field .value)) s)) (input2 1 (vout (s .field .value)) (flags (s .field .value)) s)
 
 abbrev pub sequenceSettled : State → Settled
 sequenceSettled s = settled (sequenceNext s) (input1 5 (s .field .value) s)
@@ -342,33 +347,33 @@ locktimeSettled s = quiet (locktimeNext (setLocktime (s .field .value) s))
 
 unfoldable pub littleSettled : ℕ → State → Settled
 littleSettled stage s =
-    cond (eqb stage 0) (versionSettled s) ▸
-    cond (eqb stage 1) (flagSettled s) ▸
-    cond (eqb stage 4) (voutSettled s) ▸
-    cond (eqb stage 6) (sequenceSettled s) ▸
-    cond (eqb stage 9) (amountSettled s) ▸
-    cond (eqb stage 10) (keysSettled s) ▸
-    cond (eqb stage 12) (assetSettled s) ▸
-    cond (eqb stage 13) (valueSettled s) ▸
-    cond (eqb stage 14) (nonceSettled s) ▸
+    cond (eqb stage VERSION) (versionSettled s) ▸
+    cond (eqb stage FLAG) (flagSettled s) ▸
+    cond (eqb stage VOUT) (voutSettled s) ▸
+    cond (eqb stage SEQUENCE) (sequenceSettled s) ▸
+    cond (eqb stage ISSUANCE-AMOUNT) (amountSettled s) ▸
+    cond (eqb stage INFLATION-KEYS) (keysSettled s) ▸
+    cond (eqb stage ASSET) (assetSettled s) ▸
+    cond (eqb stage VALUE) (valueSettled s) ▸
+    cond (eqb stage NONCE) (nonceSettled s) ▸
     locktimeSettled s
 
 unfoldable pub bigSettled : ℕ → State → Settled
 bigSettled stage s =
-    cond (eqb stage 9) (settled (number 10 1 s) (input2 8 (high s) (low s) s)) ▸
-    cond (eqb stage 10) (settled (nextInput (further s)) (input2 11 (high s) (low s) s)) ▸
-    settled (number 14 1 s) (output2 4 (high s) (low s) s)
+    cond (eqb stage ISSUANCE-AMOUNT) (settled (number INFLATION-KEYS 1 s) (input2 8 (high s) (low s) s)) ▸
+    cond (eqb stage INFLATION-KEYS) (settled (nextInput (furtherInput s)) (input2 11 (high s) (low s) s)) ▸
+    settled (number NONCE 1 s) (output2 4 (high s) (low s) s)
 
 unfoldable pub opaqueSettled : ℕ → State → Settled
 opaqueSettled stage s =
-    cond (eqb stage 3) (settled (number 4 4 s) (input1 0 (s .taken - 32) s)) ▸
-    cond (eqb stage 7) (settled (opaque 8 s) (input1 6 (s .taken - 32) s)) ▸
-    cond (eqb stage 8) (quiet (number 9 1 s)) ▸
-    cond (eqb stage 9) (quiet (number 10 1 s)) ▸
-    cond (eqb stage 10) (quiet (nextInput (further s))) ▸
-    cond (eqb stage 12) (quiet (number 13 1 s)) ▸
-    cond (eqb stage 13) (quiet (number 14 1 s)) ▸
-    cond (eqb stage 14) (quiet (compact 15 s)) ▸
+    cond (eqb stage TXID) (settled (number VOUT 4 s) (input1 0 (s .taken - 32) s)) ▸
+    cond (eqb stage BLINDING-NONCE) (settled (opaque ENTROPY s) (input1 6 (s .taken - 32) s)) ▸
+    cond (eqb stage ENTROPY) (quiet (number ISSUANCE-AMOUNT 1 s)) ▸
+    cond (eqb stage ISSUANCE-AMOUNT) (quiet (number INFLATION-KEYS 1 s)) ▸
+    cond (eqb stage INFLATION-KEYS) (quiet (nextInput (furtherInput s))) ▸
+    cond (eqb stage ASSET) (quiet (number VALUE 1 s)) ▸
+    cond (eqb stage VALUE) (quiet (number NONCE 1 s)) ▸
+    cond (eqb stage NONCE) (quiet (compact OUTPUT-SCRIPT s)) ▸
     quiet (bodyEnds stage s)
 
 unfoldable pub settleBy : ℕ → State → Settled
@@ -438,7 +443,7 @@ entering r t = machine (r .decoder) (enterBy (r .entered .table) (r .entered) t)
 -- an ended state stays as it is; a field whose last byte this is settles
 unfoldable pub step : Machine → ℕ → Machine
 step m b =
-    cond (leb 25 (m .state .field .stage)) m ▸
+    cond (leb FINISHED (m .state .field .stage)) m ▸
     cond (eqb (m .state .field .have + 1) (m .state .field .width)) (entering (settle (gather (m .state) b)) (m .tables)) ▸
     machine (gather (m .state) b) (m .tables)
 
@@ -460,13 +465,13 @@ headOf s =
     }
 
 unfoldable pub answerOf : State → Answer Head
-answerOf s = cond (eqb (s .field .stage) 25) (Answer.finished (headOf s)) ▸ cond (eqb (s .field .stage) 26) (refused (s .field .value) (s .field .have)) ▸ more
+answerOf s = cond (eqb (s .field .stage) FINISHED) (Answer.finished (headOf s)) ▸ cond (eqb (s .field .stage) REFUSED) (refused (s .field .value) (s .field .have)) ▸ more
 
 -- the fresh start
 abbrev pub fresh : Sizes → State
 fresh z =
     record {
-      field = field 0 LITTLE 4 0 0;
+      field = field VERSION LITTLE 4 0 0;
       taken = 0;
       sizes = z;
       counts = record { version = 0; flag = 0; inputs = 0; outputs = 0; items = 0; locktime = 0 };

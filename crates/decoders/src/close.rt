@@ -11,6 +11,7 @@ use crate::Head;
 use crate::Sizes;
 use crate::Spot;
 use crate::TransactionDecoder;
+use crate::stages;
 use crate::tables;
 
 pub(crate) fn fresh(inputs: usize, outputs: usize, items: usize) -> TransactionDecoder
@@ -18,8 +19,8 @@ pub(crate) fn fresh(inputs: usize, outputs: usize, items: usize) -> TransactionD
 {
     TransactionDecoder {
         field: Field {
-            stage: 0,
-            form: 3,
+            stage: stages::VERSION,
+            form: stages::LITTLE,
             width: 4,
             have: 0,
             value: 0,
@@ -88,9 +89,9 @@ impl TransactionDecoder {
         requires { ⌜ Closes self ⌝ }
         ensures { λ r. ⌜ r ≡ told (answerOf self) ⌝ }
     {
-        if self.field.stage == 25 {
+        if self.field.stage == stages::FINISHED {
             Answer::Finished(self.head())
-        } else if self.field.stage == 26 {
+        } else if self.field.stage == stages::REFUSED {
             Answer::Refused(self.field.value, self.field.have)
         } else {
             Answer::More
@@ -101,7 +102,7 @@ impl TransactionDecoder {
     pub(crate) fn finish(self) -> TransactionDecoder
         ensures { λ r. ⌜ r ≡ finish self ⌝ }
     {
-        if 25 <= self.field.stage {
+        if stages::FINISHED <= self.field.stage {
             self
         } else {
             let place = self.taken;
@@ -114,7 +115,7 @@ impl TransactionDecoder {
         ensures { λ r. ⌜ r ≡ follow there self ⌝ }
     {
         let taken = self.taken;
-        if self.field.stage == 25 {
+        if self.field.stage == stages::FINISHED {
             if taken < there {
                 self.refuse(9, taken)
             } else {
@@ -137,7 +138,7 @@ impl TransactionDecoder {
         ensures { λ r. ⌜ outOf r (tables (now (inputs .exit)) (now (outputs .exit)) (now (items .exit))) ≡ closed self taken (tables (now (inputs .entry)) (now (outputs .entry)) (now (items .entry))) ⌝ }
     {
         let answer = self.answer();
-        if self.field.stage == 26 {
+        if self.field.stage == stages::REFUSED {
             tables::zero_all(inputs, outputs, items);
             return Fed {
                 decoder: self,

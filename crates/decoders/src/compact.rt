@@ -6,13 +6,14 @@ use crate::Entered;
 use crate::Field;
 use crate::Settled;
 use crate::TransactionDecoder;
+use crate::stages;
 use crate::state;
 
 // Where a count or length starts that is read so far: at its first byte.
 fn count_start(form: usize, width: usize, taken: usize) -> usize
     ensures { λ r. ⌜ r ≡ countStart form width taken ⌝ }
 {
-    if form == 0 {
+    if form == stages::FURTHER {
         state::minus(state::minus(taken, width), 1)
     } else {
         state::minus(taken, 1)
@@ -23,14 +24,18 @@ fn count_start(form: usize, width: usize, taken: usize) -> usize
 fn count_announces(form: usize, n: usize) -> bool
     ensures { λ r. ⌜ r ≡ countAnnounces form n ⌝ }
 {
-    if form == 0 { false } else { 252 < n }
+    if form == stages::FURTHER {
+        false
+    } else {
+        252 < n
+    }
 }
 
 // Further bytes that hold less than so many must.
 fn count_long(form: usize, width: usize, n: usize) -> bool
     ensures { λ r. ⌜ r ≡ countLong form width n ⌝ }
 {
-    if form == 0 {
+    if form == stages::FURTHER {
         !encode::is_shortest(width, n)
     } else {
         false
@@ -64,13 +69,13 @@ impl TransactionDecoder {
     {
         let at = self.taken;
         match stage {
-            5 => self.input2(3, at, n),
-            15 => self.output2(8, at, n),
-            17 => self.input2(13, at, n),
-            18 => self.input2(15, at, n),
-            20 => self.item2(at, n),
-            22 => self.item2(at, n),
-            23 => self.output2(10, at, n),
+            stages::INPUT_SCRIPT => self.input2(3, at, n),
+            stages::OUTPUT_SCRIPT => self.output2(8, at, n),
+            stages::AMOUNT_PROOF => self.input2(13, at, n),
+            stages::KEYS_PROOF => self.input2(15, at, n),
+            stages::SCRIPT_ITEM => self.item2(at, n),
+            stages::PEGIN_ITEM => self.item2(at, n),
+            stages::SURJECTION_PROOF => self.output2(10, at, n),
             _ => self.output2(12, at, n),
         }
     }
@@ -80,10 +85,10 @@ impl TransactionDecoder {
         ensures { λ r. ⌜ r ≡ bodySeen stage n self ⌝ }
     {
         match stage {
-            17 => self.emptied(n),
-            18 => self.emptied(n),
-            23 => self.emptied(n),
-            24 => self.emptied(n),
+            stages::AMOUNT_PROOF => self.emptied(n),
+            stages::KEYS_PROOF => self.emptied(n),
+            stages::SURJECTION_PROOF => self.emptied(n),
+            stages::RANGE_PROOF => self.emptied(n),
             _ => self,
         }
     }
@@ -98,7 +103,7 @@ impl TransactionDecoder {
         } else {
             let field = Field {
                 stage: stage,
-                form: 2,
+                form: stages::OPAQUE,
                 width: n,
                 have: 0,
                 value: 0,
@@ -189,10 +194,10 @@ impl TransactionDecoder {
         ensures { λ r. ⌜ r ≡ compactSettled stage start n self ⌝ }
     {
         match stage {
-            2 => self.inputs_counted(start, n),
-            11 => self.outputs_counted(start, n),
-            19 => self.script_counted(start, n),
-            21 => self.pegin_counted(start, n),
+            stages::INPUT_COUNT => self.inputs_counted(start, n),
+            stages::OUTPUT_COUNT => self.outputs_counted(start, n),
+            stages::SCRIPT_COUNT => self.script_counted(start, n),
+            stages::PEGIN_COUNT => self.pegin_counted(start, n),
             _ => self.length_settled(stage, start, n),
         }
     }
@@ -209,7 +214,8 @@ impl TransactionDecoder {
         let width = self.field.width;
         let start = count_start(form, width, self.taken);
         if count_announces(form, n) {
-            return self.opened(start, stage, 0, encode::announced(n)).quiet();
+            return self.opened(start, stage, stages::FURTHER, encode::announced(n))
+                .quiet();
         }
         if count_long(form, width, n) {
             return self.refuse(3, start).quiet();

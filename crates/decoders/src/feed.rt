@@ -8,6 +8,7 @@ ghost use Rattle.decoders.specs.Machine.{worth, worths, gathered, machin
 ghost use Rattle.decoders.specs.Feeding.{tables};
 ghost use Rattle.decoders.specs.Needs.{ByteAt, Worthy, Gathers, Fits, Feeds, Starts, ours};
 use crate::TransactionDecoder;
+use crate::stages;
 use crate::tables;
 
 pub(crate) fn wide(b: u8) -> usize
@@ -44,7 +45,7 @@ pub(crate) fn worth(form: usize, value: usize, have: usize, b: usize) -> usize
     requires { ⌜ Worthy form value have b ⌝ }
     ensures { λ r. ⌜ r ≡ worth form value have b ⌝ }
 {
-    if form == 4 {
+    if form == stages::BIG {
         value * 256 + b
     } else {
         value + b * power(have)
@@ -56,7 +57,7 @@ pub(crate) fn worths_slow(form: usize, value: usize, have: usize, part: &[u8]) -
     requires { ⌜ Gathers form value have (length (now part)) ⌝ }
     ensures { λ r. ⌜ r ≡ worths form value have (now (part .entry)) ⌝ }
 {
-    if form == 2 {
+    if form == stages::OPAQUE {
         return value;
     }
     let mut v = value;
@@ -113,14 +114,14 @@ pub(crate) fn worths(form: usize, value: usize, have: usize, part: &[u8]) -> usi
     requires { ⌜ Gathers form value have (length (now part)) ⌝ }
     ensures { λ r. ⌜ r ≡ worths form value have (now (part .entry)) ⌝ }
 {
-    if form == 2 {
+    if form == stages::OPAQUE {
         return value;
     }
     if part.len() == 1 {
         return worth(form, value, have, wide(part[0]));
     }
     if have == 0 {
-        if form == 4 {
+        if form == stages::BIG {
             if part.len() == 8 {
                 return eight_big(part);
             }
@@ -196,7 +197,7 @@ impl TransactionDecoder {
         let mut n = 0;
         while n < piece.len() {
             let stage = d.field.stage;
-            if 25 <= stage {
+            if stages::FINISHED <= stage {
                 return d;
             }
             let rest = &piece[n..];

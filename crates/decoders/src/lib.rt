@@ -7,6 +7,7 @@ mod prefix;
 mod range;
 mod records;
 mod settle;
+mod stages;
 mod state;
 mod tables;
 

@@ -2,6 +2,7 @@
 ghost use mathlib.Core.Path.{_≡_};
 ghost use Rattle.decoders.specs.Machine.{valuePart, assetPart, noncePart, amountNext, nullKeysNext, keysNext, assetNext, valueNext, nonceNext, Safe};
 use crate::TransactionDecoder;
+use crate::stages;
 use crate::state;
 
 impl TransactionDecoder {
@@ -14,7 +15,7 @@ impl TransactionDecoder {
         let at = self.taken;
         let width = confidential::value::width(self.field.value);
         if width == 9 {
-            self.opened(at, stage, 4, 8)
+            self.opened(at, stage, stages::BIG, 8)
         } else if width == 33 {
             self.opaque(stage)
         } else {
@@ -60,7 +61,7 @@ impl TransactionDecoder {
     {
         if self.field.value == 0 {
             self.spot.null = 1;
-            self.number(10, 1)
+            self.number(stages::INFLATION_KEYS, 1)
         } else {
             self.spot.null = 0;
             self.value_part()
@@ -96,7 +97,7 @@ impl TransactionDecoder {
         ensures { λ r. ⌜ r ≡ assetNext self ⌝ }
     {
         if self.field.value == 0 {
-            self.number(13, 1)
+            self.number(stages::VALUE, 1)
         } else {
             self.asset_part()
         }
@@ -107,7 +108,7 @@ impl TransactionDecoder {
         ensures { λ r. ⌜ r ≡ valueNext self ⌝ }
     {
         if self.field.value == 0 {
-            self.number(14, 1)
+            self.number(stages::NONCE, 1)
         } else {
             self.value_part()
         }
@@ -118,7 +119,7 @@ impl TransactionDecoder {
         ensures { λ r. ⌜ r ≡ nonceNext self ⌝ }
     {
         if self.field.value == 0 {
-            self.compact(15)
+            self.compact(stages::OUTPUT_SCRIPT)
         } else {
             self.nonce_part()
         }

@@ -2,8 +2,9 @@
 ghost use mathlib.Core.Path.{_≡_};
 ghost use Prim.Native.Nat.{_≤_};
 ghost use Rattle.layout.specs.Transaction.{limit};
-ghost use Rattle.decoders.specs.Machine.{nextInput, nextOutput, witnessesEnd, nextOutputWitness, nextInputWitness, nextScriptItem, nextPeginItem, further, itemEnds, bodyEnds, Counted, Safe};
+ghost use Rattle.decoders.specs.Machine.{nextInput, nextOutput, witnessesEnd, nextOutputWitness, nextInputWitness, nextScriptItem, nextPeginItem, further, furtherInput, itemEnds, bodyEnds, Counted, Safe};
 use crate::TransactionDecoder;
+use crate::stages;
 use crate::state;
 
 impl TransactionDecoder {
@@ -12,9 +13,9 @@ impl TransactionDecoder {
         ensures { λ r. ⌜ r ≡ nextInput self ⌝ }
     {
         if self.spot.index < self.counts.inputs {
-            self.opaque(3)
+            self.opaque(stages::TXID)
         } else {
-            self.compact(11)
+            self.compact(stages::OUTPUT_COUNT)
         }
     }
 
@@ -23,9 +24,9 @@ impl TransactionDecoder {
         ensures { λ r. ⌜ r ≡ nextOutput self ⌝ }
     {
         if self.spot.index < self.counts.outputs {
-            self.number(12, 1)
+            self.number(stages::ASSET, 1)
         } else {
-            self.number(16, 4)
+            self.number(stages::LOCKTIME, 4)
         }
     }
 
@@ -45,7 +46,7 @@ impl TransactionDecoder {
         ensures { λ r. ⌜ r ≡ nextOutputWitness self ⌝ }
     {
         if self.spot.index < self.counts.outputs {
-            self.compact(23)
+            self.compact(stages::SURJECTION_PROOF)
         } else {
             self.witnesses_end()
         }
@@ -56,7 +57,7 @@ impl TransactionDecoder {
         ensures { λ r. ⌜ r ≡ nextInputWitness self ⌝ }
     {
         if self.spot.index < self.counts.inputs {
-            self.compact(17)
+            self.compact(stages::AMOUNT_PROOF)
         } else {
             self.spot.index = 0;
             self.next_output_witness()
@@ -68,9 +69,9 @@ impl TransactionDecoder {
         ensures { λ r. ⌜ r ≡ nextScriptItem self ⌝ }
     {
         if 0 < self.spot.left {
-            self.compact(20)
+            self.compact(stages::SCRIPT_ITEM)
         } else {
-            self.compact(21)
+            self.compact(stages::PEGIN_COUNT)
         }
     }
 
@@ -79,7 +80,7 @@ impl TransactionDecoder {
         ensures { λ r. ⌜ r ≡ nextPeginItem self ⌝ }
     {
         if 0 < self.spot.left {
-            self.compact(22)
+            self.compact(stages::PEGIN_ITEM)
         } else {
             let index = self.spot.index + 1;
             self.spot.index = index;
@@ -87,13 +88,15 @@ impl TransactionDecoder {
         }
     }
 
-    // After an input: the next one, or the outputs.
+    // After an input: the next one, or the outputs. Nothing is kept of its issuance.
     pub(crate) fn input_ends(mut self) -> TransactionDecoder
         requires { ⌜ Safe self ⌝ }
-        ensures { λ r. ⌜ r ≡ nextInput (further self) ⌝ }
+        ensures { λ r. ⌜ r ≡ nextInput (furtherInput self) ⌝ }
     {
         let index = self.spot.index + 1;
         self.spot.index = index;
+        self.spot.issuance = 0;
+        self.spot.null = 0;
         self.next_input()
     }
 
@@ -143,13 +146,13 @@ impl TransactionDecoder {
         ensures { λ r. ⌜ r ≡ bodyEnds stage self ⌝ }
     {
         match stage {
-            5 => self.number(6, 4),
-            15 => self.output_ends(),
-            17 => self.compact(18),
-            18 => self.compact(19),
-            20 => self.script_item_ends(),
-            22 => self.pegin_item_ends(),
-            23 => self.compact(24),
+            stages::INPUT_SCRIPT => self.number(stages::SEQUENCE, 4),
+            stages::OUTPUT_SCRIPT => self.output_ends(),
+            stages::AMOUNT_PROOF => self.compact(stages::KEYS_PROOF),
+            stages::KEYS_PROOF => self.compact(stages::SCRIPT_COUNT),
+            stages::SCRIPT_ITEM => self.script_item_ends(),
+            stages::PEGIN_ITEM => self.pegin_item_ends(),
+            stages::SURJECTION_PROOF => self.compact(stages::RANGE_PROOF),
             _ => self.output_witness_ends(),
         }
     }

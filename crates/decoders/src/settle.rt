@@ -2,9 +2,11 @@
 ghost use mathlib.Core.Path.{_≡_};
 ghost use Prim.Native.Nat.{_-_};
 ghost use Rattle.layout.specs.Transaction.{vout, flags, flagBit};
-ghost use Rattle.decoders.specs.Machine.{sequenceNext, locktimeNext, versionSettled, flagSettled, voutSettled, sequenceSettled, amountSettled, keysSettled, assetSettled, valueSettled, nonceSettled, locktimeSettled, littleSettled, bigSettled, opaqueSettled, settle, settled, quiet, number, opaque, input1, input2, output2, nextInput, further, bodyEnds, high, low, Safe};
+ghost use Rattle.decoders.specs.Stages as names;
+ghost use Rattle.decoders.specs.Machine.{sequenceNext, locktimeNext, versionSettled, flagSettled, voutSettled, sequenceSettled, amountSettled, keysSettled, assetSettled, valueSettled, nonceSettled, locktimeSettled, littleSettled, bigSettled, opaqueSettled, settle, settled, quiet, number, opaque, input1, input2, output2, nextInput, furtherInput, bodyEnds, high, low, Safe};
 use crate::Settled;
 use crate::TransactionDecoder;
+use crate::stages;
 use crate::state;
 
 // Raw vout 0xffffffff stays so, with no flag. Otherwise bit 30 is the pegin flag, bit 31 the issuance flag, both cleared in vout.
@@ -44,7 +46,7 @@ impl TransactionDecoder {
         ensures { λ r. ⌜ r ≡ sequenceNext self ⌝ }
     {
         if self.spot.issuance == 1 {
-            self.opaque(7)
+            self.opaque(stages::BLINDING_NONCE)
         } else {
             self.input_ends()
         }
@@ -72,7 +74,7 @@ impl TransactionDecoder {
     {
         let v = self.field.value;
         self.counts.version = v;
-        self.number(1, 1).quiet()
+        self.number(stages::FLAG, 1).quiet()
     }
 
     pub(crate) fn flag_settled(mut self) -> Settled
@@ -81,7 +83,7 @@ impl TransactionDecoder {
     {
         let v = self.field.value;
         self.counts.flag = v;
-        self.compact(2).quiet()
+        self.compact(stages::INPUT_COUNT).quiet()
     }
 
     pub(crate) fn vout_settled(mut self) -> Settled
@@ -93,7 +95,7 @@ impl TransactionDecoder {
         let both = pegin_flag(raw) + 2 * issuance;
         let entered = self.input2(1, vout(raw), both);
         self.spot.issuance = issuance;
-        self.compact(5).settled(entered)
+        self.compact(stages::INPUT_SCRIPT).settled(entered)
     }
 
     pub(crate) fn sequence_settled(self) -> Settled
@@ -167,31 +169,31 @@ impl TransactionDecoder {
         ensures { λ r. ⌜ r ≡ littleSettled stage self ⌝ }
     {
         match stage {
-            0 => self.version_settled(),
-            1 => self.flag_settled(),
-            4 => self.vout_settled(),
-            6 => self.sequence_settled(),
-            9 => self.amount_settled(),
-            10 => self.keys_settled(),
-            12 => self.asset_settled(),
-            13 => self.value_settled(),
-            14 => self.nonce_settled(),
+            stages::VERSION => self.version_settled(),
+            stages::FLAG => self.flag_settled(),
+            stages::VOUT => self.vout_settled(),
+            stages::SEQUENCE => self.sequence_settled(),
+            stages::ISSUANCE_AMOUNT => self.amount_settled(),
+            stages::INFLATION_KEYS => self.keys_settled(),
+            stages::ASSET => self.asset_settled(),
+            stages::VALUE => self.value_settled(),
+            stages::NONCE => self.nonce_settled(),
             _ => self.locktime_settled(),
         }
     }
 
     pub(crate) fn amount_explicit(self) -> Settled
         requires { ⌜ Safe self ⌝ }
-        ensures { λ r. ⌜ r ≡ settled (number 10 1 self) (input2 8 (high self) (low self) self) ⌝ }
+        ensures { λ r. ⌜ r ≡ settled (number names.INFLATION-KEYS 1 self) (input2 8 (high self) (low self) self) ⌝ }
     {
         let v = self.field.value;
         let entered = self.input2(8, v / 4294967296, v % 4294967296);
-        self.number(10, 1).settled(entered)
+        self.number(stages::INFLATION_KEYS, 1).settled(entered)
     }
 
     pub(crate) fn keys_explicit(self) -> Settled
         requires { ⌜ Safe self ⌝ }
-        ensures { λ r. ⌜ r ≡ settled (nextInput (further self)) (input2 11 (high self) (low self) self) ⌝ }
+        ensures { λ r. ⌜ r ≡ settled (nextInput (furtherInput self)) (input2 11 (high self) (low self) self) ⌝ }
     {
         let v = self.field.value;
         let entered = self.input2(11, v / 4294967296, v % 4294967296);
@@ -200,11 +202,11 @@ impl TransactionDecoder {
 
     pub(crate) fn value_explicit(self) -> Settled
         requires { ⌜ Safe self ⌝ }
-        ensures { λ r. ⌜ r ≡ settled (number 14 1 self) (output2 4 (high self) (low self) self) ⌝ }
+        ensures { λ r. ⌜ r ≡ settled (number names.NONCE 1 self) (output2 4 (high self) (low self) self) ⌝ }
     {
         let v = self.field.value;
         let entered = self.output2(4, v / 4294967296, v % 4294967296);
-        self.number(14, 1).settled(entered)
+        self.number(stages::NONCE, 1).settled(entered)
     }
 
     pub(crate) fn big_settled(self, stage: usize) -> Settled
@@ -212,28 +214,28 @@ impl TransactionDecoder {
         ensures { λ r. ⌜ r ≡ bigSettled stage self ⌝ }
     {
         match stage {
-            9 => self.amount_explicit(),
-            10 => self.keys_explicit(),
+            stages::ISSUANCE_AMOUNT => self.amount_explicit(),
+            stages::INFLATION_KEYS => self.keys_explicit(),
             _ => self.value_explicit(),
         }
     }
 
     pub(crate) fn txid_settled(self) -> Settled
         requires { ⌜ Safe self ⌝ }
-        ensures { λ r. ⌜ r ≡ settled (number 4 4 self) (input1 0 (self .taken - 32) self) ⌝ }
+        ensures { λ r. ⌜ r ≡ settled (number names.VOUT 4 self) (input1 0 (self .taken - 32) self) ⌝ }
     {
         let at = state::minus(self.taken, 32);
         let entered = self.input1(0, at);
-        self.number(4, 4).settled(entered)
+        self.number(stages::VOUT, 4).settled(entered)
     }
 
     pub(crate) fn blinding_nonce_settled(self) -> Settled
         requires { ⌜ Safe self ⌝ }
-        ensures { λ r. ⌜ r ≡ settled (opaque 8 self) (input1 6 (self .taken - 32) self) ⌝ }
+        ensures { λ r. ⌜ r ≡ settled (opaque names.ENTROPY self) (input1 6 (self .taken - 32) self) ⌝ }
     {
         let at = state::minus(self.taken, 32);
         let entered = self.input1(6, at);
-        self.opaque(8).settled(entered)
+        self.opaque(stages::ENTROPY).settled(entered)
     }
 
     pub(crate) fn opaque_settled(self, stage: usize) -> Settled
@@ -241,14 +243,14 @@ impl TransactionDecoder {
         ensures { λ r. ⌜ r ≡ opaqueSettled stage self ⌝ }
     {
         match stage {
-            3 => self.txid_settled(),
-            7 => self.blinding_nonce_settled(),
-            8 => self.number(9, 1).quiet(),
-            9 => self.number(10, 1).quiet(),
-            10 => self.input_ends().quiet(),
-            12 => self.number(13, 1).quiet(),
-            13 => self.number(14, 1).quiet(),
-            14 => self.compact(15).quiet(),
+            stages::TXID => self.txid_settled(),
+            stages::BLINDING_NONCE => self.blinding_nonce_settled(),
+            stages::ENTROPY => self.number(stages::ISSUANCE_AMOUNT, 1).quiet(),
+            stages::ISSUANCE_AMOUNT => self.number(stages::INFLATION_KEYS, 1).quiet(),
+            stages::INFLATION_KEYS => self.input_ends().quiet(),
+            stages::ASSET => self.number(stages::VALUE, 1).quiet(),
+            stages::VALUE => self.number(stages::NONCE, 1).quiet(),
+            stages::NONCE => self.compact(stages::OUTPUT_SCRIPT).quiet(),
             _ => self.body_ends(stage).quiet(),
         }
     }
@@ -259,12 +261,12 @@ impl TransactionDecoder {
     {
         let form = self.field.form;
         let stage = self.field.stage;
-        if form <= 1 {
+        if form <= stages::FIRST {
             return self.count_settled();
         }
         match form {
-            2 => self.opaque_settled(stage),
-            3 => self.little_settled(stage),
+            stages::OPAQUE => self.opaque_settled(stage),
+            stages::LITTLE => self.little_settled(stage),
             _ => self.big_settled(stage),
         }
     }

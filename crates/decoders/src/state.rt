@@ -7,6 +7,7 @@ use crate::Counts;
 use crate::Field;
 use crate::Spot;
 use crate::TransactionDecoder;
+use crate::stages;
 
 impl TransactionDecoder {
     // A refusal keeps the bytes taken and the sizes; its number and place stand in the field.
@@ -16,7 +17,7 @@ impl TransactionDecoder {
         let sizes = self.sizes;
         TransactionDecoder {
             field: Field {
-                stage: 26,
+                stage: stages::REFUSED,
                 form: 0,
                 width: 0,
                 have: place,
@@ -42,17 +43,26 @@ impl TransactionDecoder {
         }
     }
 
+    // A finished reading keeps the head numbers, the bytes taken and the sizes.
     pub(crate) fn finished(mut self) -> TransactionDecoder
         ensures { λ r. ⌜ r ≡ finished self ⌝ }
     {
         let field = Field {
-            stage: 25,
+            stage: stages::FINISHED,
             form: 0,
             width: 0,
             have: 0,
             value: 0,
         };
+        let spot = Spot {
+            index: 0,
+            left: 0,
+            issuance: 0,
+            null: 0,
+            empty: 0,
+        };
         self.field = field;
+        self.spot = spot;
         self
     }
 
@@ -88,7 +98,7 @@ impl TransactionDecoder {
         ensures { λ r. ⌜ r ≡ number stage width self ⌝ }
     {
         let place = self.taken;
-        self.opened(place, stage, 3, width)
+        self.opened(place, stage, stages::LITTLE, width)
     }
 
     pub(crate) fn compact(self, stage: usize) -> TransactionDecoder
@@ -96,7 +106,7 @@ impl TransactionDecoder {
         ensures { λ r. ⌜ r ≡ compact stage self ⌝ }
     {
         let place = self.taken;
-        self.opened(place, stage, 1, 1)
+        self.opened(place, stage, stages::FIRST, 1)
     }
 
     pub(crate) fn opaque(self, stage: usize) -> TransactionDecoder
@@ -104,7 +114,7 @@ impl TransactionDecoder {
         ensures { λ r. ⌜ r ≡ opaque stage self ⌝ }
     {
         let place = self.taken;
-        self.opened(place, stage, 2, 32)
+        self.opened(place, stage, stages::OPAQUE, 32)
     }
 }
 

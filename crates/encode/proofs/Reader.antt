@@ -6,31 +6,34 @@ use mathlib.Core.List.{List}
 use lib.Dec.{leb, lit≤}
 use lib.ListN.{length, take, drop}
 use Rattle.layout.specs.Number.{little, value}
-use Rattle.layout.specs.Layout.{accept, refuse, run, behind}
+use Rattle.layout.specs.Layout.{accept, refuse, Answer, finished, refused, Reading, run, behind}
 use Rattle.layout.specs.Transaction.{announced, least}
-use Rattle.encode.specs.declared.Count.the-variants.{Value, Refused}
-use Rattle.encode.specs.Count.{toldOf, countOf}
+use Rattle.layout.specs.Outcome.{finish}
+use Rattle.encode.specs.Count.{counted}
 use Rattle.encode.proofs.Compact.{compact-empty, compact-first, compact-cut, compact-whole}
 
-judged : (w n : ℕ) (xs : List ℕ) (short : Bool) → toldOf (behind 1 (behind w (run (cond short (accept n) (refuse 3 0)) xs))) ≡ cond short (Value n) (Refused 3 0)
+abbrev ended : Reading ℕ → Answer ℕ
+ended r = finish (r .answer) (r .taken)
+
+judged : (w n : ℕ) (xs : List ℕ) (short : Bool) → ended (behind 1 (behind w (run (cond short (accept n) (refuse 3 0)) xs))) ≡ cond short (finished n) (refused 3 0)
 unfolding run
 judged w n xs true = refl
 judged w n xs false = refl
 
 module _ (xs : List ℕ) where
-  pub count-empty : length xs ≡ 0 → Refused 1 0 ≡ countOf xs
-  count-empty e = sym (ap toldOf (compact-empty 0 _ xs (lit≤ tt) e))
+  pub count-empty : length xs ≡ 0 → refused 1 0 ≡ counted xs
+  count-empty e = sym (ap ended (compact-empty 0 _ xs (lit≤ tt) e))
 
   module _ (first : ℕ) (is : first ≡ value little (take 1 xs)) (there : 1 ≤ length xs) where
-    pub count-first : first ≤ 252 → Value first ≡ countOf xs
+    pub count-first : first ≤ 252 → finished first ≡ counted xs
     unfolding run
-    count-first h = sym (ap toldOf (compact-first 0 _ xs (lit≤ tt) first is there h))
+    count-first h = sym (ap ended (compact-first 0 _ xs (lit≤ tt) first is there h))
 
     module _ (w : ℕ) (says : w ≡ announced first) (above : 252 < first) where
-      pub count-cut : length xs ≤ w → Refused 1 (length xs) ≡ countOf xs
-      count-cut h = sym (ap toldOf (compact-cut 0 _ xs (lit≤ tt) first is there w says above h))
+      pub count-cut : length xs ≤ w → refused 1 (length xs) ≡ counted xs
+      count-cut h = sym (ap ended (compact-cut 0 _ xs (lit≤ tt) first is there w says above h))
 
-      pub count-whole : w < length xs → (n : ℕ) → n ≡ value little (take (announced first) (drop 1 xs)) → countOf xs ≡ cond (leb (least w) n) (Value n) (Refused 3 0)
+      pub count-whole : w < length xs → (n : ℕ) → n ≡ value little (take (announced first) (drop 1 xs)) → counted xs ≡ cond (leb (least w) n) (finished n) (refused 3 0)
       count-whole h n is-n =
-          ap toldOf (compact-whole 0 _ xs (lit≤ tt) first is there w says above n (is-n ∙ ap (λ (b : ℕ). value little (take b (drop 1 xs))) (sym says)) h)
+          ap ended (compact-whole 0 _ xs (lit≤ tt) first is there w says above n (is-n ∙ ap (λ (b : ℕ). value little (take b (drop 1 xs))) (sym says)) h)
           ∙ judged w n (drop w (drop 1 xs)) (leb (least w) n)

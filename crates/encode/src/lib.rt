@@ -4,7 +4,7 @@ mod little;
 ghost use mathlib.Core.Path.{_≡_};
 ghost use lib.Dec.{leb};
 ghost use Rattle.layout.specs.Transaction.{announced, least};
-ghost use Rattle.encode.specs.Count.{countOf};
+ghost use Rattle.encode.specs.Count.{answerOf, counted};
 
 // What a count reads as: its value, or a refusal's number and place.
 pub enum Count {
@@ -41,7 +41,7 @@ pub fn is_shortest(bytes: usize, n: usize) -> bool
 // Reads one count or length from the first byte on; what stands behind it is not looked at. Refused: cut, 1 at the
 // slice's length; not in shortest form, 3 at 0.
 pub fn read_count(s: &[u8]) -> Count
-    ensures { λ r. ⌜ r ≡ countOf (now (s .entry)) ⌝ }
+    ensures { λ r. ⌜ answerOf r ≡ counted (now (s .entry)) ⌝ }
 {
     if s.len() == 0 {
         return Count::Refused(1, 0);

@@ -5,28 +5,28 @@ ghost use lib.ListN.{length, take, drop};
 ghost use Rattle.layout.specs.Number.{value, little};
 ghost use Rattle.layout.specs.Transaction.{announced};
 
-pub fn one(s: &[u8], at: usize) -> usize
+pub(crate) fn one(s: &[u8], at: usize) -> usize
     requires { ⌜ at + 1 ≤ length (now s) ⌝ }
     ensures { λ r. ⌜ r ≡ value little (take 1 (drop at (now (s .entry)))) ⌝ }
 {
     s[at] as usize
 }
 
-pub fn two(s: &[u8], at: usize) -> usize
+pub(crate) fn two(s: &[u8], at: usize) -> usize
     requires { ⌜ at + 2 ≤ length (now s) ⌝ }
     ensures { λ r. ⌜ r ≡ value little (take 2 (drop at (now (s .entry)))) ⌝ }
 {
     one(s, at) + 256 * one(s, at + 1)
 }
 
-pub fn four(s: &[u8], at: usize) -> usize
+pub(crate) fn four(s: &[u8], at: usize) -> usize
     requires { ⌜ at + 4 ≤ length (now s) ⌝ }
     ensures { λ r. ⌜ r ≡ value little (take 4 (drop at (now (s .entry)))) ⌝ }
 {
     two(s, at) + 65536 * two(s, at + 2)
 }
 
-pub fn eight(s: &[u8], at: usize) -> usize
+pub(crate) fn eight(s: &[u8], at: usize) -> usize
     requires { ⌜ at + 8 ≤ length (now s) ⌝ }
     ensures { λ r. ⌜ r ≡ value little (take 8 (drop at (now (s .entry)))) ⌝ }
 {
@@ -34,7 +34,7 @@ pub fn eight(s: &[u8], at: usize) -> usize
 }
 
 // The number behind the first byte of a count.
-pub fn further(s: &[u8], first: usize) -> usize
+pub(crate) fn further(s: &[u8], first: usize) -> usize
     requires { ⌜ 1 + announced first ≤ length (now s) ⌝ }
     ensures { λ r. ⌜ r ≡ value little (take (announced first) (drop 1 (now (s .entry)))) ⌝ }
 {

@@ -302,6 +302,66 @@ fn empty_pieces() {
     push(idle(fresh(), b"\x02\x00\x00\x00\x00\xfd\x01"), b"\x01");
 }
 
+// A reading that finished, with one number more: head numbers that no 11 bytes have.
+fn out_of_range_finished() {
+    // finished with flag 255 and one input; with flag 1; with an item; with an index
+    let d = push(fresh(), b"\x02\x00\x00\x00\x00\x00\x00\x00\x00\x00\x00");
+    let mut a = d;
+    a.counts.flag = 255;
+    a.counts.inputs = 1;
+    push(a, b"");
+    let mut b = d;
+    b.counts.flag = 1;
+    end(b);
+    let mut c = d;
+    c.counts.items = 1;
+    push(c, b"");
+    let mut e = d;
+    e.spot.index = 1;
+    push(e, b"");
+}
+
+// A number before it is read, or a byte more or less than the fields before have.
+fn out_of_range_early() {
+    let mut a = fresh();
+    a.counts.locktime = 1;
+    push(a, b"\x02");
+    let mut b = fresh();
+    b.taken = 1;
+    push(b, b"\x02");
+    // in an input's script: an item; three further bytes; the input's txid behind one byte less
+    let d = push(
+        fresh(),
+        b"\x02\x00\x00\x00\x01\x01eeeeeeeeeeeeeeeeeeeeeeeeeeeeeeee\x00\x00\x00\x00\xfd",
+    );
+    let mut e = d;
+    e.counts.items = 1;
+    push(e, b"");
+    let mut f = d;
+    f.field.width = 3;
+    push(f, b"");
+    let mut g = d;
+    g.taken = 42;
+    push(g, b"");
+}
+
+// A witness with flag 0, and behind as few bytes as have none; refusal 7 anywhere but at 4.
+fn out_of_range_late() {
+    let d = push(
+        fresh(),
+        b"\x02\x00\x00\x00\x01\x01eeeeeeeeeeeeeeeeeeeeeeeeeeeeeeee\x00\x00\x00\x00\x00\xfe\xff\xff\xff\x00\x00\x00\x00\x00",
+    );
+    let mut a = d;
+    a.counts.flag = 0;
+    push(a, b"");
+    let mut b = d;
+    b.taken = 11;
+    push(b, b"");
+    let mut c = push(fresh(), b"\x02\x00\x00\x00\x02\x00\x00\x00\x00\x00\x00");
+    c.field.have = 5;
+    end(c);
+}
+
 fn main() {
     ended();
     witness_shown(output_shown(input_shown()));
@@ -311,4 +371,7 @@ fn main() {
     forged();
     out_of_range();
     out_of_range_ended();
+    out_of_range_finished();
+    out_of_range_early();
+    out_of_range_late();
 }

@@ -5,31 +5,37 @@ use mathlib.Core.Bool.{Bool, cond}
 use mathlib.Core.List.{List}
 use lib.Dec.{leb, eqb}
 use lib.ListN.{getD}
+use Rattle.layout.specs.Layout.{Answer, finished, more, refused}
 use Rattle.layout.specs.Transaction.{announced, least}
 use Rattle.encode.specs.declared.Count.{Count}
 use Rattle.encode.specs.declared.Count.the-variants.{Value, Refused}
-use Rattle.encode.specs.Count.{countOf}
+use Rattle.encode.specs.Count.{answerOf, counted}
 use Rattle.confidential.specs.Width.{valueWidth, assetWidth, nonceWidth}
 use Rattle.wrong.proofs.Loads.{computes, hex, apart}
 
 -- a refusal's number, or 100 and the value
-abbrev number : Count → ℕ
-number (Value n) = 100 + n
-number (Refused n p) = n
+abbrev number : Answer ℕ → ℕ
+number (finished n) = 100 + n
+number more = 0
+number (refused n p) = n
 
-abbrev place : Count → ℕ
-place (Value n) = 0
-place (Refused n p) = p
+abbrev case : Answer ℕ → ℕ
+case (finished n) = 0
+case more = 2
+case (refused n p) = 1
 
-abbrev case : Count → ℕ
-case (Value n) = 0
-case (Refused n p) = 1
+abbrev Wrong : (List ℕ → Count) → List ℕ → Type 0
+Wrong p xs = answerOf (p xs) ≡ counted xs → ⊥
+
+-- the right answer as a case of the enum
+abbrev right : List ℕ → Count
+right xs = elim (counted xs) [ finished n ↦ Value n | more ↦ Refused 0 0 | refused n p ↦ Refused n p ]
 
 -- the first byte is always the value: no length above 252 would be read
 abbrev firstByte : List ℕ → Count
 firstByte xs = Value (getD xs 0 0)
 
-pub firstByte-wrong : firstByte (hex "fe00000100") ≡ countOf (hex "fe00000100") → ⊥
+pub firstByte-wrong : Wrong firstByte (hex "fe00000100")
 unfolding computes
 firstByte-wrong = apart number 354 65636 refl refl refl
 
@@ -37,23 +43,23 @@ firstByte-wrong = apart number 354 65636 refl refl refl
 abbrev refusing : ℕ → ℕ → List ℕ → Count
 refusing n p xs = Refused n p
 
-pub refusing-wrong : (n p : ℕ) → refusing n p (hex "fc") ≡ countOf (hex "fc") → ⊥
+pub refusing-wrong : (n p : ℕ) → Wrong (refusing n p) (hex "fc")
 unfolding computes
 refusing-wrong n p = apart case 1 0 refl refl refl
 
 -- any form passes: one count would have two writings
 abbrev anyForm : List ℕ → Count
-anyForm xs = cond (eqb (number (countOf xs)) 3) (Value 252) (countOf xs)
+anyForm xs = cond (eqb (number (counted xs)) 3) (Value 252) (right xs)
 
-pub anyForm-wrong : anyForm (hex "fdfc00") ≡ countOf (hex "fdfc00") → ⊥
+pub anyForm-wrong : Wrong anyForm (hex "fdfc00")
 unfolding computes
 anyForm-wrong = apart number 352 3 refl refl refl
 
 -- a cut count is 0: a cut transaction would be misread
 abbrev cutIsNone : List ℕ → Count
-cutIsNone xs = cond (eqb (number (countOf xs)) 1) (Value 0) (countOf xs)
+cutIsNone xs = cond (eqb (number (counted xs)) 1) (Value 0) (right xs)
 
-pub cutIsNone-wrong : cutIsNone (hex "fdfd") ≡ countOf (hex "fdfd") → ⊥
+pub cutIsNone-wrong : Wrong cutIsNone (hex "fdfd")
 unfolding computes
 cutIsNone-wrong = apart number 100 1 refl refl refl
 

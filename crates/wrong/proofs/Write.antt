@@ -17,7 +17,7 @@ use Rattle.encoders.specs.Answers.{told, toldNumber, toldPlace, toldLength, Out
 use Rattle.wrong.proofs.Loads.{apart}
 
 -- Where this is unfolded, writing computes.
-writes : Unit {0}
+unfoldable pub writes : Unit {0}
 unfolding value bytesOf compactBytes flat bodyBytes listBytes valueBytes tokenBytes issuanceBytes inputBytes outputBytes inputWitnessBytes outputWitnessBytes
     witnessesBytes contentsBytes confused all sum records body valueOf tokenOf inputOf outputOf itemOf inputWitnessOf outputWitnessOf contentsOf
     valueRule zeros₇ issuanceRule inputWitnessRule inputRule tokenRule outputWitnessRule outputRule itemRule inputFault inputFaults ruleFaults
@@ -31,17 +31,17 @@ tables i = record { inputs = i; outputs = []; items = [] }
 abbrev head : ℕ → Head
 head flag = record { version = 2; flag = flag; inputs = 1; outputs = 0; items = 0; locktime = 0; bytes = 0 }
 
-abbrev pegin : Tables
+abbrev pub pegin : Tables
 pegin = tables (0 ∷ 5 ∷ 1 ∷ replicate 17 0)
 
 -- flags 4: 13 at 0
-abbrev bad : Tables
+abbrev pub bad : Tables
 bad = tables (0 ∷ 5 ∷ 4 ∷ replicate 17 0)
 
-abbrev source : List ℕ
+abbrev pub source : List ℕ
 source = replicate 32 0xee
 
-abbrev marked : ℕ → List ℕ
+abbrev pub marked : ℕ → List ℕ
 marked n = replicate n 7
 
 abbrev Program : Type 0

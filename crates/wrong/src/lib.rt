@@ -1,1 +1,1 @@
-// Wrong readers, each refuted (proofs/): its outcome on a named load is not what the promise says. No code.
+// Wrong programs, each refuted (proofs/): its outcome on a named load is not what the promise says. No code.

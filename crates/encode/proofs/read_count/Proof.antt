@@ -5,8 +5,8 @@ use native.Mathlib.Omega.{arith}
 use lib.Dec.{leb}
 use borrow.Author.Needs.{needs}
 use Rattle.layout.specs.Transaction.{least}
-use Rattle.encode.specs.declared.Count.the-variants.{Value, Refused}
-use Rattle.encode.specs.Count.{countOf}
+use Rattle.layout.specs.Layout.{finished, refused}
+use Rattle.encode.specs.Count.{counted}
 use Rattle.encode.proofs.Reader.{count-empty, count-first, count-cut, count-whole}
 use Rattle.encode.proofs.read_count.Statement.{statement}
 use Rattle.encode.proofs.read_count.Tie as tie
@@ -32,7 +32,7 @@ further-requires c κs = search needs
 is-shortest-requires : tie.Need-is-shortest-requires
 is-shortest-requires c κs = search needs
 
-whole : (c : tie.After-further) → countOf (c .before .before .before .before .before .before .before .args .s .now) ≡ cond (leb (least (c .before .before .announced .result)) (c .further .result)) (Value (c .further .result)) (Refused 3 0)
+whole : (c : tie.After-further) → counted (c .before .before .before .before .before .before .before .args .s .now) ≡ cond (leb (least (c .before .before .announced .result)) (c .further .result)) (finished (c .further .result)) (refused 3 0)
 whole c =
     count-whole _ _ (c .before .before .before .before .one .ensures) (omega arith) _ (c .before .before .announced .ensures) (omega arith)
     (omega arith) _ (c .further .ensures)

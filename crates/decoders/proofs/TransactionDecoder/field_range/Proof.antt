@@ -10,7 +10,7 @@ use borrow.Author.Needs.{needs}
 use borrow.Author.Tests.{le-leb, lt-leb, lt-ltb, le-ltb, eq-eqb, ne-eqb}
 use Rattle.decoders.specs.Machine.{OPAQUE, State}
 use Rattle.decoders.specs.Range.{greatestWidth, fieldRange}
-use Rattle.decoders.proofs.Chain.{and-false, _and_, last}
+use Rattle.decoders.proofs.Chain.{and-false, _and_, last, off, on}
 use Rattle.decoders.proofs.TransactionDecoder.field_range.Statement.{statement}
 use Rattle.decoders.proofs.TransactionDecoder.field_range.Tie as tie
 
@@ -25,8 +25,8 @@ narrow : (kind form : ℕ) → (form ≡ OPAQUE → ⊥) → greatestWidth kind 
 unfolding greatestWidth
 narrow k f ne = simp (ne-eqb f 2 ne) (narrow-by (eqb f 0) (eqb f 1) (eqb f 3) (eqb k 0))
 
-abbrev self : tie.Else5 → State
-self c = c .before .before .before .before .before .before .before .before .before .before .before .before .before .before .before .args .self
+abbrev self : tie.Else6 → State
+self c = c .before .before .before .before .before .before .before .before .before .before .before .before .before .before .before .before .before .before .args .self
 
 abbrev valueFits : State → Bool
 valueFits s = cond (eqb (s .field .form) OPAQUE) (eqb (s .field .value) 0) (ltb (s .field .value) (256 ^ s .field .have))
@@ -37,10 +37,11 @@ of-opaque s e = simp (eq-eqb (s .field .form) 2 e)
 of-number : (s : State) → (s .field .form ≡ OPAQUE → ⊥) → s .field .have ≤ 7 → ltb (s .field .value) (256 ^ min (s .field .have) 7) ≡ valueFits s
 of-number s ne few = simp (ne-eqb (s .field .form) 2 ne, min-eq-left few)
 
-to-value : (c : tie.Else5) → valueFits (self c) ≡ fieldRange (self c)
+to-value : (c : tie.Else6) → valueFits (self c) ≡ fieldRange (self c)
 unfolding fieldRange
 to-value c =
-    let c4 = c .before .before in
+    let c5 = c .before .before in
+    let c4 = c5 .before .before .before in
     let greatest = c4 .before .before in
     let c3 = greatest .before in
     let least = c3 .before .before in
@@ -54,7 +55,8 @@ to-value c =
     and (simp (most .greatest-form .ensures, k) at (le-leb _ _ (c2 .if2 .left)))
     and (simp (least .least-width .ensures, k) at (le-leb _ _ (c3 .if3 .left)))
     and (simp (greatest .greatest-width .ensures, k) at (le-leb _ _ (c4 .if4 .left)))
-    and lt-ltb _ _ (c .if5 .left))
+    and on (c5 .before .either .ensures) (c5 .if5 .left)
+    and lt-ltb _ _ (c .if6 .left))
 
 kind-requires : tie.Need-kind-requires
 kind-requires c κs = search needs
@@ -87,23 +89,31 @@ returns-4 : tie.Need-returns-4
 unfolding fieldRange
 returns-4 c = simp (← c .before .before .before .before .before .before .before .before .before .before .before .before .kind .ensures, ← c .before .before .greatest-width .ensures, lt-leb _ _ (c .if4 .taken), and-false)
 
+either-requires : tie.Need-either-requires
+either-requires c κs = search needs
+
 returns-5 : tie.Need-returns-5
 unfolding fieldRange
-returns-5 c = simp (le-ltb _ _ (c .if5 .taken), and-false)
+returns-5 c = simp (off (c .before .either .ensures) (c .if5 .taken), and-false)
 
 returns-6 : tie.Need-returns-6
-returns-6 c = let c5 = c .before .before .before in of-opaque (self c5) (c .before .if6 .taken) ∙ to-value c5
+unfolding fieldRange
+returns-6 c = simp (le-ltb _ _ (c .if6 .taken), and-false)
+
+returns-7 : tie.Need-returns-7
+returns-7 c = let c6 = c .before .before .before in of-opaque (self c6) (c .before .if7 .taken) ∙ to-value c6
 
 power-requires : tie.Need-power-requires
 power-requires c κs = search needs
 
-returns-7 : tie.Need-returns-7
-returns-7 c =
-    let c6 = c .before .before in
-    let c5 = c6 .before .before in
-    let k = c5 .before .before .before .before .before .before .before .before .before .before .before .before .before .before .kind .result in
-    let few : self c5 .field .have ≤ 7 = omega (arith, narrow k (self c5 .field .form) (c6 .if6 .left)) in
-    ap (ltb (self c5 .field .value)) (c .before .power .ensures) ∙ of-number (self c5) (c6 .if6 .left) few ∙ to-value c5
+returns-8 : tie.Need-returns-8
+returns-8 c =
+    let c7 = c .before .before in
+    let c6 = c7 .before .before in
+    let k = c6 .before .before .before .before .before .before .before .before .before .before .before .before .before .before .before .before .before .kind .result in
+    let c4 = c6 .before .before .before .before .before in
+    let few : self c6 .field .have ≤ 7 = omega (arith, narrow k (self c6 .field .form) (c7 .if7 .left), c6 .if6 .left, c4 .if4 .left, c4 .before .before .greatest-width .ensures) in
+    ap (ltb (self c6 .field .value)) (c .before .power .ensures) ∙ of-number (self c6) (c7 .if7 .left) few ∙ to-value c6
 
 pub field-range-spec : {M : Type 1} → statement M
 field-range-spec =
@@ -118,7 +128,9 @@ field-range-spec =
     returns-3
     greatest-width-requires
     returns-4
+    either-requires
     returns-5
     returns-6
+    returns-7
     power-requires
-    returns-7)
+    returns-8)

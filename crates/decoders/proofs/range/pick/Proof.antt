@@ -1,0 +1,13 @@
+-- `range::pick` meets its contract: the tests that led to a number pick the same case of the definition.
+use native.Mathlib.Omega.{arith}
+use Rattle.decoders.proofs.range.pick.Statement.{statement}
+use Rattle.decoders.proofs.range.pick.Tie as tie
+
+returns : tie.Need-returns
+returns c = record { is = simp (c .if1 .taken); small = omega arith }
+
+returns-2 : tie.Need-returns-2
+returns-2 c = record { is = simp (c .if1 .left); small = omega arith }
+
+pub pick-spec : {M : Type 1} → statement M
+pick-spec = tie.close (tie.spec returns returns-2)

@@ -1,0 +1,20 @@
+-- `range::slack` meets its contract: the tests that led to a number pick the same case of the definition.
+use native.Mathlib.Omega.{arith}
+use borrow.Author.Tests.{eq-eqb, ne-eqb}
+use Rattle.decoders.proofs.range.slack.Statement.{statement}
+use Rattle.decoders.proofs.range.slack.Tie as tie
+
+returns : tie.Need-returns
+returns c = record { is = simp (eq-eqb _ _ (c .if1 .taken)); small = omega arith }
+
+returns-2 : tie.Need-returns-2
+returns-2 c = record { is = simp (ne-eqb _ _ (c .before .if1 .left), eq-eqb _ _ (c .if2 .taken)); small = omega arith }
+
+returns-3 : tie.Need-returns-3
+returns-3 c = record { is = simp (ne-eqb _ _ (c .before .before .if1 .left), ne-eqb _ _ (c .before .if2 .left), eq-eqb _ _ (c .if3 .taken)); small = omega arith }
+
+returns-4 : tie.Need-returns-4
+returns-4 c = record { is = simp (ne-eqb _ _ (c .before .before .if1 .left), ne-eqb _ _ (c .before .if2 .left), ne-eqb _ _ (c .if3 .left)); small = omega arith }
+
+pub slack-spec : {M : Type 1} → statement M
+slack-spec = tie.close (tie.spec returns returns-2 returns-3 returns-4)

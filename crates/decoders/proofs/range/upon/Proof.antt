@@ -1,0 +1,13 @@
+-- `range::upon` meets its contract: the tests that led to a number pick the same case of the definition.
+use native.Mathlib.Omega.{arith}
+use Rattle.decoders.proofs.range.upon.Statement.{statement}
+use Rattle.decoders.proofs.range.upon.Tie as tie
+
+returns : tie.Need-returns
+returns c = record { is = simp (c .if1 .taken); small = omega arith }
+
+returns-2 : tie.Need-returns-2
+returns-2 c = record { is = simp (c .if1 .left); small = omega arith }
+
+pub upon-spec : {M : Type 1} → statement M
+upon-spec = tie.close (tie.spec returns returns-2)
