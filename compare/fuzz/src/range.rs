@@ -23,7 +23,7 @@ pub const ISSUANCE_FLAG: usize = 17;
 pub const NULL: usize = 18;
 pub const EMPTY: usize = 19;
 
-/// Each stage's kind, and the first summand of the least number of bytes before its field.
+/// What each stage reads, numbered as in docs/STATE.md, and the first summand of the least number of bytes before its field.
 const STAGES: [(u8, usize); 25] = [
     (0, 0),
     (1, 4),

@@ -18,7 +18,8 @@ use Rattle.decoders.specs.declared.Entered.{Entered}
 use Rattle.decoders.specs.declared.Settled.{Settled}
 use Rattle.decoders.specs.declared.Sizes.{Sizes}
 use Rattle.decoders.specs.Machine.{FURTHER, FIRST, OPAQUE, LITTLE, BIG, State, worth, worths, gathered, enterBy, machine, Machine, fed, entering, settle, Safe}
-use Rattle.decoders.specs.Range.{inRange, kinds, greatestWidth}
+use Rattle.decoders.specs.Range.{inRange, greatestWidth}
+use Rattle.decoders.proofs.Rows.{kinds}
 use Rattle.decoders.specs.Feeding.{sizesOf}
 use Rattle.decoders.specs.Needs.{sizeBy, Storable, Gathers, Fits, Feeds, ours}
 use Rattle.decoders.proofs.Gather.{worth-below, worths-opaque, fed-within, fed-settles}

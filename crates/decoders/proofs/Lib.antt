@@ -11,8 +11,8 @@ pub mod Laws
 pub mod Loop
 pub mod OneOutcome
 pub mod Openings
-pub mod Phases
 pub mod Ranges
+pub mod Rows
 pub mod Settles
 pub mod Simulation
 pub mod Theorems

@@ -15,7 +15,8 @@ use Rattle.decoders.specs.declared.Settled.{Settled}
 use Rattle.decoders.specs.Stages.{KEYS-PROOF, PEGIN-ITEM, RANGE-PROOF}
 use Rattle.decoders.specs.Machine as m
 use Rattle.decoders.specs.Machine.{FIRST, OPAQUE, LITTLE, State, settled, quiet, opened, compactSettled, lengthSettled, bodyEnds, bodyEntered, bodySeen, bodyOpened, emptied, inputsCounted, outputsCounted, scriptCounted, peginCounted, opaqueSettled, nextInput, nextOutput, nextInputWitness, nextOutputWitness, nextScriptItem, nextPeginItem, witnessesEnd}
-use Rattle.decoders.specs.Range.{kinds, size, leastWidth, greatestWidth, ownBytes, before, slack, scripts, dark, inputWitnessesRead, outputWitnessesRead, within, inRange}
+use Rattle.decoders.specs.Range.{size, leastWidth, greatestWidth, ownBytes, inRange}
+use Rattle.decoders.proofs.Rows.{kinds, before, slack, scripts, darkAt, inputWitnessesRead, outputWitnessesRead, within}
 use Rattle.decoders.proofs.Ranges.{given, Numbers, Few, Stands, Placed, Witnessed, open-range, finished-range, refuse-range}
 
 abbrev pub sizeBy : ℕ → Sizes → ℕ
@@ -262,9 +263,9 @@ pub record Behind (σ start : ℕ) (s : State) : Type 0 where
   pub numbers : Numbers σ FIRST s
   pub few : Few σ s
   pub least : before σ s + s .counts .items ≤ start + 8 * s .spot .null
-  pub lit : before σ s + dark σ FIRST ≤ start + 8 * s .spot .null + s .spot .empty
+  pub lit : before σ s + darkAt σ FIRST ≤ start + 8 * s .spot .null + s .spot .empty
   pub exact : start ≤ before σ s + slack σ + limit * scripts σ s
-  pub seen : dark σ FIRST ≤ s .spot .empty + inputWitnessesRead σ s + outputWitnessesRead σ s + within KEYS-PROOF PEGIN-ITEM σ + within RANGE-PROOF RANGE-PROOF σ
+  pub seen : darkAt σ FIRST ≤ s .spot .empty + inputWitnessesRead σ s + outputWitnessesRead σ s + within KEYS-PROOF PEGIN-ITEM σ + within RANGE-PROOF RANGE-PROOF σ
 
 abbrev pub Counted : ℕ → Type 0
 Counted σ = (start n : ℕ) (s : State) → start + size n ≡ s .taken → Behind σ start s → Good (s .sizes) (compactSettled σ start n s)
@@ -316,7 +317,7 @@ pub record Ended (σ : ℕ) (s : State) : Type 0 where
   pub numbers : Numbers σ FIRST s
   pub few : Few σ s
   pub least : before σ s + s .counts .items + 1 ≤ s .taken + 8 * s .spot .null
-  pub lit : before σ s + dark σ FIRST + 1 ≤ s .taken + 8 * s .spot .null + s .spot .empty
+  pub lit : before σ s + darkAt σ FIRST + 1 ≤ s .taken + 8 * s .spot .null + s .spot .empty
 
 abbrev proof : ℕ → Bool
 proof σ = eqb σ 17 || eqb σ 18 || eqb σ 23 || eqb σ 24

@@ -17,9 +17,10 @@ use Rattle.decoders.specs.Stages.{LOCKTIME}
 use Rattle.decoders.specs.Machine as m
 use Rattle.confidential.specs.Width.{valueWidth, assetWidth, nonceWidth}
 use Rattle.decoders.specs.Machine.{FURTHER, FIRST, OPAQUE, LITTLE, BIG, State, settle, settleBy, firstSettled, furtherSettled, littleSettled, bigSettled, opaqueSettled, valuePart, assetPart, noncePart, amountNext, keysNext, nullKeysNext, assetNext, valueNext, nonceNext, sequenceNext, locktimeNext}
-use Rattle.decoders.specs.Range.{kinds, size, leastForms, greatestForms, leastWidth, greatestWidth, ownBytes, stacked, dark, inRange}
+use Rattle.decoders.specs.Range.{size, leastForms, greatestForms, leastWidth, greatestWidth, ownBytes, inRange}
+use Rattle.decoders.proofs.Rows.{kinds, stacked, darkAt}
 use Rattle.decoders.proofs.Simulation.{st}
-use Rattle.decoders.proofs.Ranges.{Numbers, Few, Stands, Ready, finished-range}
+use Rattle.decoders.proofs.Ranges.{From, from, _then_, Numbers, Few, Stands, Ready, finished-range}
 use Rattle.decoders.proofs.Openings.{Fits, Ranged, Good, good, silent, tests, cond-ranged, cond-good, refused, Opens, opens, size-some, size-few, size-further, Behind, Ended, InputNext, next-input, next-input-witness, Counted, inputs-counted, outputs-counted, script-counted, pegin-counted, Body, body-counted, input-script, output-script, amount-proof, keys-proof, script-item, pegin-item, surjection-proof, range-proof}
 
 -- ---- a stage and a form at which a whole field settles well
@@ -33,7 +34,7 @@ announced-some first =
     by-cases (eqb first 254) (λ e′. rw (e, e′) (omega arith, omega arith, refl)) (λ e′. rw (e, e′) (omega arith, omega arith, refl))
 
 -- what is known of the numbers that outlast a field does not go by the field, but for `empty`
-likewise : {σ f g : ℕ} {s : State} (h : Field) → Numbers σ f s → s .spot .empty ≤ dark σ g → Numbers σ g (m.withField h s)
+likewise : {σ f g : ℕ} {s : State} (h : Field) → Numbers σ f s → s .spot .empty ≤ darkAt σ g → Numbers σ g (m.withField h s)
 likewise h k e = record { taken = k .taken; version = k .version; no-version = k .no-version; flagged = k .flagged; flag = k .flag; inputs = k .inputs; no-inputs = k .no-inputs; outputs = k .outputs; no-outputs = k .no-outputs; no-items = k .no-items; locktime = k .locktime; no-locktime = k .no-locktime; index = k .index; some-left = k .some-left; items = k .items; fewer = k .fewer; issued = k .issued; issuance = k .issuance; null = k .null; empty = e }
 
 few-likewise : {σ : ℕ} {s : State} (h : Field) → Few σ s → Few σ (m.withField h s)
@@ -72,7 +73,7 @@ module _ (σ : ℕ) (running : σ ≤ 24) (further : getD leastForms (getD kinds
       (λ q. counted (t - w - 1) v s (omega (arith, late (t - w - 1) s b, size-further w v (r .further) (leb-true (least w) v q) (subst (λ (k : ℕ). v < 256 ^ k) e (r .value)))) b)
       (λ q. silent (refused 3 (t - w - 1) s (omega (arith, e, ls, r .wide, r .narrow, late (t - w - 1) s b, r .numbers .taken))))
 
-dark-most : (σ : ℕ) → dark σ FIRST ≤ 1
+dark-most : (σ : ℕ) → darkAt σ FIRST ≤ 1
 dark-most σ = by-cases (stacked σ) (λ e. rw e (omega arith)) (λ e. by-cases (leb σ LOCKTIME) (λ e′. rw (e, e′) (omega arith)) (λ e′. rw (e, e′) (omega arith)))
 
 -- the body's own bytes
@@ -270,24 +271,8 @@ module _ (w h v t : ℕ) (z : Sizes) (c : Counts) (p : Spot) (e : h ≡ w) where
 
 -- ---- by stage and form
 
--- P of each of n numbers from k on
-abbrev From : (ℕ → Type 0) → ℕ → ℕ → Type 0
-From P k zero = Unit {0}
-From P k (suc n) = P k × From P (suc k) n
-
-from : (P : ℕ → Type 0) (k n i : ℕ) → k ≤ i → i < k + n → From P k n → P i
-from P k zero i h l ps = absurd (omega arith)
-from P k (suc n) i h l ps =
-    by-cases (eqb k i)
-    (λ e. subst P (eqb-true k i e) (ps .0))
-    (λ e. from P (suc k) n i (omega tests) (omega arith) (ps .1))
-
 abbrev Forms : ℕ → Type 0
 Forms σ = From (At σ) (getD leastForms (getD kinds σ 0) 0) (suc (getD greatestForms (getD kinds σ 0) 0) - getD leastForms (getD kinds σ 0) 0)
-
-infixr 5 _then_
-_then_ : {A B : Type 0} → A → B → A × B
-a then b = (a, b)
 
 counted-forms : (σ : ℕ) → σ ≤ 24 → getD leastForms (getD kinds σ 0) 0 ≡ 0 → eqb (getD kinds σ 0) 2 ≡ false → ((start : ℕ) (s : State) → Behind σ start s → 5 ≤ start) → Counted σ → From (At σ) 0 2
 counted-forms σ h e d l k = further-at σ h e d l k then first-at σ h e d l k then tt

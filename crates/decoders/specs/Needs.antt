@@ -11,9 +11,9 @@ use Rattle.decoders.specs.declared.Entered.{Entered}
 use Rattle.decoders.specs.declared.Head.{Head}
 use Rattle.layout.specs.Transaction.{limit, least}
 use Rattle.decoders.specs.declared.Settled.{Settled}
-use Rattle.decoders.specs.Stages.{VERSION, INPUT-SCRIPT, SEQUENCE, BLINDING-NONCE, INFLATION-KEYS, OUTPUT-COUNT, LOCKTIME, KEYS-PROOF, SCRIPT-ITEM, PEGIN-ITEM, RANGE-PROOF, FINISHED}
+use Rattle.decoders.specs.Stages.{RANGE-PROOF, FINISHED}
 use Rattle.decoders.specs.Machine.{OPAQUE, State, firstSettled, furtherSettled}
-use Rattle.decoders.specs.Range.{kinds, befores, upto, within, size, ownBytes, stacked, slack, dark, greatestFlag, inRange}
+use Rattle.decoders.specs.Range.{inRange}
 use Rattle.decoders.specs.Feeding.{sizesOf}
 
 -- a finished state's head numbers, as the code has them
@@ -47,22 +47,7 @@ pub record Sized (most r v : ℕ) : Type 0 where
   pub is : r ≡ v
   pub small : r ≤ most
 
--- what the range test's sums need so that they fit: what the field's test, and then a part's first tests, have shown
-pub record Fielded (w h : ℕ) : Type 0 where
-  pub width : w ≤ limit
-  pub have : h ≤ limit
-
-pub record Firsted (w h t i o n x u e : ℕ) : Type 0 where
-  pub width : w ≤ limit
-  pub have : h ≤ limit
-  pub taken : t ≤ limit
-  pub inputs : i ≤ limit
-  pub outputs : o ≤ limit
-  pub items : n ≤ 4294967295
-  pub index : x ≤ limit
-  pub null : u ≤ 1
-  pub empty : e ≤ 1
-
+-- what the range test's sums need so that they fit: what a finished state's first tests have shown
 pub record Ending (i o n t : ℕ) : Type 0 where
   pub inputs : i ≤ limit
   pub outputs : o ≤ limit
@@ -71,80 +56,6 @@ pub record Ending (i o n t : ℕ) : Type 0 where
 
 abbrev pub Endable : State → Type 0
 Endable s = Ending (s .counts .inputs) (s .counts .outputs) (s .counts .items) (s .taken)
-
--- ---- the range test in the three parts of a reading, with the tests that each part needs: Phases proves that they are the definition's
-
--- stages 0 to 2
-unfoldable pub openingFits : ℕ → ℕ → ℕ → ℕ → ℕ → ℕ → ℕ → ℕ → ℕ → ℕ → ℕ → ℕ → ℕ → ℕ → ℕ → ℕ → ℕ → ℕ → ℕ → Bool
-openingFits stage form width have taken version flag locktime inputs inputRoom outputs outputRoom items itemRoom left index issuance null empty =
-    eqb taken (getD befores stage 0 + ownBytes (getD kinds stage 0) form width + have)
-    && leb (getD befores stage 0 + ownBytes (getD kinds stage 0) form width + width) limit
-    && leb version 4294967295
-    && eqb (upto VERSION version stage) 0
-    && leb flag (greatestFlag stage)
-    && eqb locktime 0
-    && eqb inputs 0
-    && eqb outputs 0
-    && eqb items 0
-    && eqb left 0
-    && eqb index 0
-    && eqb issuance 0
-    && eqb null 0
-    && eqb empty 0
-
--- stages 3 to 16
-unfoldable pub middleFirst : ℕ → ℕ → ℕ → ℕ → ℕ → ℕ → ℕ → ℕ → ℕ → ℕ → ℕ → ℕ → ℕ → ℕ → ℕ → ℕ → ℕ → ℕ → ℕ → Bool
-middleFirst stage form width have taken version flag locktime inputs inputRoom outputs outputRoom items itemRoom left index issuance null empty =
-    leb taken limit
-    && leb version 4294967295
-    && leb flag 255
-    && eqb locktime 0
-    && leb inputs inputRoom
-    && leb outputs outputRoom
-    && eqb (upto OUTPUT-COUNT outputs stage) 0
-    && eqb items 0
-    && eqb left 0
-    && cond (eqb stage OUTPUT-COUNT || eqb stage LOCKTIME) (eqb index (cond (leb stage OUTPUT-COUNT) inputs outputs)) (ltb index (cond (leb stage OUTPUT-COUNT) inputs outputs))
-    && leb (within BLINDING-NONCE INFLATION-KEYS stage) issuance
-    && leb issuance (within INPUT-SCRIPT INFLATION-KEYS stage)
-    && leb null (within INFLATION-KEYS INFLATION-KEYS stage)
-    && eqb empty 0
-    && leb (cond (leb stage OUTPUT-COUNT) index inputs) limit
-    && leb index limit
-
-unfoldable pub middleRest : ℕ → ℕ → ℕ → ℕ → ℕ → ℕ → ℕ → ℕ → ℕ → ℕ → ℕ → ℕ → ℕ → ℕ → ℕ → ℕ → ℕ → ℕ → ℕ → Bool
-middleRest stage form width have taken version flag locktime inputs inputRoom outputs outputRoom items itemRoom left index issuance null empty =
-    leb (getD befores stage 0 + size inputs + cond (leb stage OUTPUT-COUNT) 0 (size outputs) + 41 * cond (leb stage OUTPUT-COUNT) index inputs + 4 * cond (leb stage OUTPUT-COUNT) 0 index + ownBytes (getD kinds stage 0) form width + have) (taken + 8 * null)
-    && leb taken (getD befores stage 0 + size inputs + cond (leb stage OUTPUT-COUNT) 0 (size outputs) + 41 * cond (leb stage OUTPUT-COUNT) index inputs + 4 * cond (leb stage OUTPUT-COUNT) 0 index + ownBytes (getD kinds stage 0) form width + have + slack stage + limit * (cond (leb stage OUTPUT-COUNT) index inputs + cond (leb stage OUTPUT-COUNT) 0 index + within SEQUENCE INFLATION-KEYS stage))
-    && leb (taken + width) (limit + have)
-
--- stages 17 to 24
-unfoldable pub lateFirst : ℕ → ℕ → ℕ → ℕ → ℕ → ℕ → ℕ → ℕ → ℕ → ℕ → ℕ → ℕ → ℕ → ℕ → ℕ → ℕ → ℕ → ℕ → ℕ → Bool
-lateFirst stage form width have taken version flag locktime inputs inputRoom outputs outputRoom items itemRoom left index issuance null empty =
-    leb taken limit
-    && leb version 4294967295
-    && eqb flag 1
-    && leb locktime 4294967295
-    && leb inputs inputRoom
-    && leb inputs limit
-    && leb outputs outputRoom
-    && leb outputs limit
-    && leb items itemRoom
-    && leb left (itemRoom - items)
-    && cond (stacked stage) (leb 1 left) (eqb left 0)
-    && ltb index (cond (leb stage PEGIN-ITEM) inputs outputs)
-    && eqb issuance 0
-    && eqb null 0
-    && leb empty (dark stage form)
-
-unfoldable pub lateRest : ℕ → ℕ → ℕ → ℕ → ℕ → ℕ → ℕ → ℕ → ℕ → ℕ → ℕ → ℕ → ℕ → ℕ → ℕ → ℕ → ℕ → ℕ → ℕ → Bool
-lateRest stage form width have taken version flag locktime inputs inputRoom outputs outputRoom items itemRoom left index issuance null empty =
-    leb (getD befores stage 0 + size inputs + size outputs + cond (stacked stage) (size left) 0 + 41 * inputs + 4 * outputs + 4 * cond (leb stage PEGIN-ITEM) index inputs + 2 * cond (leb stage PEGIN-ITEM) 0 index + ownBytes (getD kinds stage 0) form width + have + items) taken
-    && leb (getD befores stage 0 + size inputs + size outputs + cond (stacked stage) (size left) 0 + 41 * inputs + 4 * outputs + 4 * cond (leb stage PEGIN-ITEM) index inputs + 2 * cond (leb stage PEGIN-ITEM) 0 index + ownBytes (getD kinds stage 0) form width + have + dark stage form) (taken + empty)
-    && leb (taken + width) (limit + have)
-    && leb (items + limit * empty) limit
-    && leb items (limit * (cond (leb stage PEGIN-ITEM) index inputs + within SCRIPT-ITEM PEGIN-ITEM stage))
-    && leb (dark stage form) (empty + cond (leb stage PEGIN-ITEM) index inputs + cond (leb stage PEGIN-ITEM) 0 index + within KEYS-PROOF PEGIN-ITEM stage + within RANGE-PROOF RANGE-PROOF stage)
 
 -- how many numbers the table of an entry holds
 abbrev pub sizeBy : ℕ → Sizes → ℕ

@@ -1,122 +1,33 @@
 // The range test of refusal 11. A caller can hand in any numbers, so no sum or difference here relies on a state being right.
-// docs/STATE.md has the test as tables.
+// docs/STATE.md has the test as tables, specs/Range.antt as definitions: the same rows, one a stage.
 use crate::TransactionDecoder;
 use crate::stages;
 use crate::state;
 ghost use mathlib.Core.Path.{_≡_};
-ghost use mathlib.Core.Bool.{true, cond, _&&_};
+ghost use mathlib.Core.Bool.{cond, _&&_};
 ghost use Prim.Native.Nat.{_+_, _*_, _^_, _≤_, min};
-ghost use lib.Dec.{leb};
 ghost use lib.ListN.{getD};
 ghost use Rattle.layout.specs.Transaction.{limit};
-ghost use Rattle.decoders.specs.Stages as names;
-ghost use Rattle.decoders.specs.Machine.{inputRoom, outputRoom, itemRoom};
-ghost use Rattle.decoders.specs.Range.{kinds, befores, behind, upto, within, size, stacked, leastForms, greatestForms, leastWidth, greatestWidth, ownBytes, slack, dark, greatestFlag, fieldRange, endedRange, wholeFits, wholeRange, nears, fars, leastPlaces, greatestPlaces, refusedRange, placedFits, inRange};
-ghost use Rattle.decoders.specs.Needs.{Sized, Fielded, Firsted, Ending, Endable, openingFits, middleFirst, middleRest, lateFirst, lateRest};
+ghost use Rattle.decoders.specs.Range as range;
+ghost use Rattle.decoders.specs.Range.{size, leastForms, greatestForms, leastWidth, greatestWidth, ownBytes, fieldRange, amongInputs, amongOutputs, amongWitnesses, inOpening, unwitnessed, inputNumbers, inInput, inputsNumbers, behindInputs, outputNumbers, inOutput, outputsNumbers, behindOutputs, witnessNumbers, inputWitnessNumbers, inInputWitness, stackNumbers, inStack, outputWitnessNumbers, inOutputWitness, endedRange, wholeFits, wholeRange, nears, fars, leastPlaces, greatestPlaces, refusedRange, placedFits, inRange};
+ghost use Rattle.decoders.specs.Needs.{Sized, Ending, Endable};
 
 const GREATEST_U32: usize = 4_294_967_295;
 
-// ---- by stage
+// What a stage reads: a number of 4 bytes or of 1, 32 bytes that are never looked at, a count, a length and body, a value, an asset or nonce.
+const NUMBER: usize = 0;
 
-// What the stage reads: 0 a number of 4 bytes, 1 of 1 byte, 2 32 bytes that are never looked at, 3 a count, 4 a length and body,
-// 5 a value, 6 an asset or nonce.
-pub(crate) fn kind(stage: usize) -> usize
-    ensures { λ r. ⌜ r ≡ getD kinds stage 0 ⌝ }
-{
-    match stage {
-        stages::VERSION => 0,
-        stages::FLAG => 1,
-        stages::INPUT_COUNT => 3,
-        stages::TXID => 2,
-        stages::VOUT => 0,
-        stages::INPUT_SCRIPT => 4,
-        stages::SEQUENCE => 0,
-        stages::BLINDING_NONCE => 2,
-        stages::ENTROPY => 2,
-        stages::ISSUANCE_AMOUNT => 5,
-        stages::INFLATION_KEYS => 5,
-        stages::OUTPUT_COUNT => 3,
-        stages::ASSET => 6,
-        stages::VALUE => 5,
-        stages::NONCE => 6,
-        stages::OUTPUT_SCRIPT => 4,
-        stages::LOCKTIME => 0,
-        stages::AMOUNT_PROOF => 4,
-        stages::KEYS_PROOF => 4,
-        stages::SCRIPT_COUNT => 3,
-        stages::SCRIPT_ITEM => 4,
-        stages::PEGIN_COUNT => 3,
-        stages::PEGIN_ITEM => 4,
-        stages::SURJECTION_PROOF => 4,
-        stages::RANGE_PROOF => 4,
-        _ => 0,
-    }
-}
+const BYTE: usize = 1;
 
-// The least number of bytes of single fields before the stage's: the head's, and those of its own record.
-pub(crate) fn before(stage: usize) -> usize
-    ensures { λ r. ⌜ Sized 119 r (getD befores stage 0) ⌝ }
-{
-    match stage {
-        stages::VERSION => 0,
-        stages::FLAG => 4,
-        stages::INPUT_COUNT => 5,
-        stages::TXID => 5,
-        stages::VOUT => 37,
-        stages::INPUT_SCRIPT => 41,
-        stages::SEQUENCE => 42,
-        stages::BLINDING_NONCE => 46,
-        stages::ENTROPY => 78,
-        stages::ISSUANCE_AMOUNT => 110,
-        stages::INFLATION_KEYS => 119,
-        stages::OUTPUT_COUNT => 5,
-        stages::ASSET => 5,
-        stages::VALUE => 6,
-        stages::NONCE => 7,
-        stages::OUTPUT_SCRIPT => 8,
-        stages::LOCKTIME => 5,
-        stages::AMOUNT_PROOF => 9,
-        stages::KEYS_PROOF => 10,
-        stages::SCRIPT_COUNT => 11,
-        stages::SCRIPT_ITEM => 11,
-        stages::PEGIN_COUNT => 12,
-        stages::PEGIN_ITEM => 12,
-        stages::SURJECTION_PROOF => 9,
-        stages::RANGE_PROOF => 10,
-        _ => 0,
-    }
-}
+const HIDDEN: usize = 2;
 
-// n behind a stage, and 0 up to it; n up to it, and 0 behind.
-fn behind(last: usize, n: usize, stage: usize) -> usize
-    ensures { λ r. ⌜ Sized n r (behind last n stage) ⌝ }
-{
-    if stage <= last { 0 } else { n }
-}
+const COUNT: usize = 3;
 
-fn upto(last: usize, n: usize, stage: usize) -> usize
-    ensures { λ r. ⌜ r ≡ upto last n stage ⌝ }
-{
-    if stage <= last { n } else { 0 }
-}
+const BODY: usize = 4;
 
-// n where a test holds, else 0.
-fn upon(test: bool, n: usize) -> usize
-    ensures { λ r. ⌜ Sized n r (cond test n 0) ⌝ }
-{
-    if test { n } else { 0 }
-}
+const AMOUNT: usize = 5;
 
-// 1 from a stage to another, else 0.
-fn within(from: usize, to: usize, stage: usize) -> usize
-    ensures { λ r. ⌜ Sized 1 r (within from to stage) ⌝ }
-{
-    if (from <= stage) & (stage <= to) {
-        1
-    } else {
-        0
-    }
-}
+const TOKEN: usize = 6;
 
 // The bytes of a count or length.
 fn size(n: usize) -> usize
@@ -129,46 +40,6 @@ fn size(n: usize) -> usize
         return 3;
     }
     if n <= GREATEST_U32 { 5 } else { 9 }
-}
-
-// The greatest value of the flag.
-fn greatest_flag(stage: usize) -> usize
-    ensures { λ r. ⌜ r ≡ greatestFlag stage ⌝ }
-{
-    if stage <= stages::FLAG {
-        return 0;
-    }
-    if stage <= stages::LOCKTIME { 255 } else { 1 }
-}
-
-// The greatest value of spot.empty.
-fn dark(stage: usize, form: usize) -> usize
-    ensures { λ r. ⌜ Sized 1 r (dark stage form) ⌝ }
-{
-    if form == stages::OPAQUE {
-        return 0;
-    }
-    if (stage == stages::SCRIPT_ITEM) | (stage == stages::PEGIN_ITEM) {
-        return 0;
-    }
-    if stage <= stages::LOCKTIME { 0 } else { 1 }
-}
-
-// How many more bytes there can be where nothing of free length was read.
-fn slack(stage: usize) -> usize
-    ensures { λ r. ⌜ Sized 96 r (slack stage) ⌝ }
-{
-    if stage == stages::VALUE {
-        return 32;
-    }
-    if stage == stages::NONCE {
-        return 64;
-    }
-    if stage == stages::OUTPUT_SCRIPT {
-        96
-    } else {
-        0
-    }
 }
 
 // ---- by kind, and form
@@ -281,6 +152,13 @@ fn own_bytes(kind: usize, form: usize, width: usize) -> usize
     }
 }
 
+// The greatest value of spot.empty with a field of this form.
+fn dark(form: usize) -> usize
+    ensures { λ r. ⌜ Sized 1 r (range.dark form) ⌝ }
+{
+    if form == stages::OPAQUE { 0 } else { 1 }
+}
+
 // One of two answers.
 fn either(test: bool, a: bool, b: bool) -> bool
     ensures { λ r. ⌜ r ≡ cond test a b ⌝ }
@@ -363,260 +241,6 @@ fn greatest_place(number: usize) -> usize
 
 // ---- tests on numbers; no sum or product in them can wrap
 
-// One of two numbers.
-fn pick(test: bool, a: usize, b: usize) -> usize
-    ensures { λ r. ⌜ Sized (a + b) r (cond test a b) ⌝ }
-{
-    if test { a } else { b }
-}
-
-// Stages 0 to 2: nothing of free length was read, so the bytes taken are known.
-fn opening_fits(
-    stage: usize,
-    form: usize,
-    width: usize,
-    have: usize,
-    taken: usize,
-    version: usize,
-    flag: usize,
-    locktime: usize,
-    inputs: usize,
-    input_room: usize,
-    outputs: usize,
-    output_room: usize,
-    items: usize,
-    item_room: usize,
-    left: usize,
-    index: usize,
-    issuance: usize,
-    null: usize,
-    empty: usize,
-) -> bool
-    requires { ⌜ Fielded width have ⌝ }
-    ensures { λ r. ⌜ r ≡ openingFits stage form width have taken version flag locktime inputs «input_room» outputs «output_room» items «item_room» left index issuance null empty ⌝ }
-{
-    let own = own_bytes(kind(stage), form, width);
-    let before = before(stage);
-    let no_version = upto(stages::VERSION, version, stage);
-    let most = greatest_flag(stage);
-    (taken == before + own + have)
-        & (before + own + width <= TransactionDecoder::LIMIT)
-        & (version <= GREATEST_U32)
-        & (no_version == 0)
-        & (flag <= most)
-        & (locktime == 0)
-        & (inputs == 0)
-        & (outputs == 0)
-        & (items == 0)
-        & (left == 0)
-        & (index == 0)
-        & (issuance == 0)
-        & (null == 0)
-        & (empty == 0)
-}
-
-// Stages 3 to 16, inputs and outputs: the numbers that outlast a field.
-fn middle_first(
-    stage: usize,
-    form: usize,
-    width: usize,
-    have: usize,
-    taken: usize,
-    version: usize,
-    flag: usize,
-    locktime: usize,
-    inputs: usize,
-    input_room: usize,
-    outputs: usize,
-    output_room: usize,
-    items: usize,
-    item_room: usize,
-    left: usize,
-    index: usize,
-    issuance: usize,
-    null: usize,
-    empty: usize,
-) -> bool
-    ensures { λ r. ⌜ r ≡ middleFirst stage form width have taken version flag locktime inputs «input_room» outputs «output_room» items «item_room» left index issuance null empty ⌝ }
-{
-    let early = stage <= stages::OUTPUT_COUNT;
-    let total = pick(early, inputs, outputs);
-    let read = pick(early, index, inputs);
-    let between = (stage == stages::OUTPUT_COUNT) | (stage == stages::LOCKTIME);
-    let there = either(between, index == total, index < total);
-    let no_outputs = upto(stages::OUTPUT_COUNT, outputs, stage);
-    let issued = within(stages::BLINDING_NONCE, stages::INFLATION_KEYS, stage);
-    let flagged = within(stages::INPUT_SCRIPT, stages::INFLATION_KEYS, stage);
-    let keys = within(stages::INFLATION_KEYS, stages::INFLATION_KEYS, stage);
-    (taken <= TransactionDecoder::LIMIT)
-        & (version <= GREATEST_U32)
-        & (flag <= 255)
-        & (locktime == 0)
-        & (inputs <= input_room)
-        & (outputs <= output_room)
-        & (no_outputs == 0)
-        & (items == 0)
-        & (left == 0)
-        & there
-        & (issued <= issuance)
-        & (issuance <= flagged)
-        & (null <= keys)
-        & (empty == 0)
-        & (read <= TransactionDecoder::LIMIT)
-        & (index <= TransactionDecoder::LIMIT)
-}
-
-// And the bytes taken.
-fn middle_rest(
-    stage: usize,
-    form: usize,
-    width: usize,
-    have: usize,
-    taken: usize,
-    version: usize,
-    flag: usize,
-    locktime: usize,
-    inputs: usize,
-    input_room: usize,
-    outputs: usize,
-    output_room: usize,
-    items: usize,
-    item_room: usize,
-    left: usize,
-    index: usize,
-    issuance: usize,
-    null: usize,
-    empty: usize,
-) -> bool
-    requires { ⌜ Firsted width have taken (cond (leb stage names.OUTPUT-COUNT) index inputs) 0 items index null empty ⌝ }
-    ensures { λ r. ⌜ r ≡ middleRest stage form width have taken version flag locktime inputs «input_room» outputs «output_room» items «item_room» left index issuance null empty ⌝ }
-{
-    let read = pick(stage <= stages::OUTPUT_COUNT, index, inputs);
-    let outputs_read = behind(stages::OUTPUT_COUNT, index, stage);
-    let counted = size(inputs);
-    let outputs_counted = behind(stages::OUTPUT_COUNT, size(outputs), stage);
-    let own = own_bytes(kind(stage), form, width);
-    let slack = slack(stage);
-    let script = within(stages::SEQUENCE, stages::INFLATION_KEYS, stage);
-    let low = before(stage) + counted + outputs_counted + 41 * read + 4 * outputs_read + own + have;
-    (low <= taken + 8 * null)
-        & (taken <= low + slack + TransactionDecoder::LIMIT * (read + outputs_read + script))
-        & (taken + width <= TransactionDecoder::LIMIT + have)
-}
-
-// Stages 17 to 24, the witnesses: the numbers that outlast a field.
-fn late_first(
-    stage: usize,
-    form: usize,
-    width: usize,
-    have: usize,
-    taken: usize,
-    version: usize,
-    flag: usize,
-    locktime: usize,
-    inputs: usize,
-    input_room: usize,
-    outputs: usize,
-    output_room: usize,
-    items: usize,
-    item_room: usize,
-    left: usize,
-    index: usize,
-    issuance: usize,
-    null: usize,
-    empty: usize,
-) -> bool
-    ensures { λ r. ⌜ r ≡ lateFirst stage form width have taken version flag locktime inputs «input_room» outputs «output_room» items «item_room» left index issuance null empty ⌝ }
-{
-    let total = pick(stage <= stages::PEGIN_ITEM, inputs, outputs);
-    let most = state::minus(item_room, items);
-    let stacked = (stage == stages::SCRIPT_ITEM) | (stage == stages::PEGIN_ITEM);
-    let some = either(stacked, 1 <= left, left == 0);
-    let dark = dark(stage, form);
-    (taken <= TransactionDecoder::LIMIT)
-        & (version <= GREATEST_U32)
-        & (flag == 1)
-        & (locktime <= GREATEST_U32)
-        & (inputs <= input_room)
-        & (inputs <= TransactionDecoder::LIMIT)
-        & (outputs <= output_room)
-        & (outputs <= TransactionDecoder::LIMIT)
-        & (items <= item_room)
-        & (left <= most)
-        & some
-        & (index < total)
-        & (issuance == 0)
-        & (null == 0)
-        & (empty <= dark)
-}
-
-// The least number of bytes taken in the witnesses, but for the items.
-fn late_bytes(
-    stage: usize,
-    form: usize,
-    width: usize,
-    have: usize,
-    inputs: usize,
-    outputs: usize,
-    left: usize,
-    index: usize,
-) -> usize
-    requires { ⌜ have ≤ limit ⌝ }
-    requires { ⌜ inputs ≤ limit ⌝ }
-    requires { ⌜ outputs ≤ limit ⌝ }
-    requires { ⌜ index ≤ limit ⌝ }
-    ensures { λ r. ⌜ Sized 400000000 r (getD befores stage 0 + size inputs + size outputs + cond (stacked stage) (size left) 0 + 41 * inputs + 4 * outputs + 4 * cond (leb stage names.PEGIN-ITEM) index inputs + 2 * cond (leb stage names.PEGIN-ITEM) 0 index + ownBytes (getD kinds stage 0) form width + have) ⌝ }
-{
-    let read = pick(stage <= stages::PEGIN_ITEM, index, inputs);
-    let outputs_read = behind(stages::PEGIN_ITEM, index, stage);
-    let stacked = (stage == stages::SCRIPT_ITEM) | (stage == stages::PEGIN_ITEM);
-    let i = size(inputs);
-    let o = size(outputs);
-    let l = upon(stacked, size(left));
-    let own = own_bytes(kind(stage), form, width);
-    before(stage) + i + o + l + 41 * inputs + 4 * outputs + 4 * read + 2 * outputs_read + own + have
-}
-
-// And the bytes taken, with what items and empty say of the witnesses.
-fn late_rest(
-    stage: usize,
-    form: usize,
-    width: usize,
-    have: usize,
-    taken: usize,
-    version: usize,
-    flag: usize,
-    locktime: usize,
-    inputs: usize,
-    input_room: usize,
-    outputs: usize,
-    output_room: usize,
-    items: usize,
-    item_room: usize,
-    left: usize,
-    index: usize,
-    issuance: usize,
-    null: usize,
-    empty: usize,
-) -> bool
-    requires { ⌜ Firsted width have taken inputs outputs items index null empty ⌝ }
-    ensures { λ r. ⌜ r ≡ lateRest stage form width have taken version flag locktime inputs «input_room» outputs «output_room» items «item_room» left index issuance null empty ⌝ }
-{
-    let read = pick(stage <= stages::PEGIN_ITEM, index, inputs);
-    let outputs_read = behind(stages::PEGIN_ITEM, index, stage);
-    let low = late_bytes(stage, form, width, have, inputs, outputs, left, index);
-    let dark = dark(stage, form);
-    let stack = within(stages::SCRIPT_ITEM, stages::PEGIN_ITEM, stage);
-    let keys = within(stages::KEYS_PROOF, stages::PEGIN_ITEM, stage);
-    let proof = within(stages::RANGE_PROOF, stages::RANGE_PROOF, stage);
-    (low + items <= taken)
-        & (low + dark <= taken + empty)
-        & (taken + width <= TransactionDecoder::LIMIT + have)
-        & (items + TransactionDecoder::LIMIT * empty <= TransactionDecoder::LIMIT)
-        & (items <= TransactionDecoder::LIMIT * (read + stack))
-        & (dark <= empty + read + outputs_read + keys + proof)
-}
-
 // A finished reading: with flag 1 there are witnesses, and not all are empty; with flag 0 there are no items.
 fn whole_fits(flag: usize, inputs: usize, outputs: usize, items: usize, taken: usize) -> bool
     requires { ⌜ Ending inputs outputs items taken ⌝ }
@@ -646,20 +270,19 @@ fn placed_fits(number: usize, place: usize, taken: usize) -> bool
 
 impl TransactionDecoder {
     // The field that is open: some of its bytes, not all, are there.
-    pub(crate) fn field_range(self) -> bool
-        ensures { λ r. ⌜ r ≡ fieldRange self ⌝ }
+    pub(crate) fn field_range(self, kind: usize) -> bool
+        ensures { λ r. ⌜ r ≡ fieldRange kind self ⌝ }
     {
-        let k = kind(self.field.stage);
-        if self.field.form < least_form(k) {
+        if self.field.form < least_form(kind) {
             return false;
         }
-        if greatest_form(k) < self.field.form {
+        if greatest_form(kind) < self.field.form {
             return false;
         }
-        if self.field.width < least_width(k, self.field.form) {
+        if self.field.width < least_width(kind, self.field.form) {
             return false;
         }
-        if greatest_width(k, self.field.form) < self.field.width {
+        if greatest_width(kind, self.field.form) < self.field.width {
             return false;
         }
         let width = self.field.width;
@@ -676,144 +299,346 @@ impl TransactionDecoder {
         self.field.value < power(self.field.have)
     }
 
-    // Stages 0 to 24, but for the field itself, in the three parts of a reading.
-    pub(crate) fn opening_range(self) -> bool
-        requires { ⌜ Fielded (self .field .width) (self .field .have) ⌝ }
-        ensures { λ r. ⌜ r ≡ openingFits (self .field .stage) (self .field .form) (self .field .width) (self .field .have) (self .taken) (self .counts .version) (self .counts .flag) (self .counts .locktime) (self .counts .inputs) (inputRoom self) (self .counts .outputs) (outputRoom self) (self .counts .items) (itemRoom self) (self .spot .left) (self .spot .index) (self .spot .issuance) (self .spot .null) (self .spot .empty) ⌝ }
+    // ---- where the field lies
+
+    // The bytes of the open field that were read before its present part.
+    fn own(self, kind: usize) -> usize
+        ensures { λ r. ⌜ Sized 9 r (range.own kind self) ⌝ }
     {
-        let stage = self.field.stage;
-        let room = self.item_room();
-        let input_room = self.sizes.inputs / TransactionDecoder::INPUT_WIDTH;
-        let output_room = self.sizes.outputs / TransactionDecoder::OUTPUT_WIDTH;
-        opening_fits(
-            stage,
-            self.field.form,
-            self.field.width,
-            self.field.have,
-            self.taken,
-            self.counts.version,
-            self.counts.flag,
-            self.counts.locktime,
-            self.counts.inputs,
-            input_room,
-            self.counts.outputs,
-            output_room,
-            self.counts.items,
-            room,
-            self.spot.left,
-            self.spot.index,
-            self.spot.issuance,
-            self.spot.null,
-            self.spot.empty,
+        own_bytes(kind, self.field.form, self.field.width)
+    }
+
+    // Behind so many bytes of other fields at least, and within the limit.
+    fn lies(self, kind: usize, least: usize) -> bool
+        requires { ⌜ least ≤ 8000000000 ⌝ }
+        ensures { λ r. ⌜ r ≡ range.lies kind least self ⌝ }
+    {
+        let start = state::minus(self.taken, self.field.have);
+        let last = state::minus(TransactionDecoder::LIMIT, self.field.width);
+        let own = self.own(kind);
+        (self.field.have <= self.taken) & (least + own <= start) & (start <= last)
+    }
+
+    // And behind no more than so many where nothing of free length was read.
+    fn exact(self, kind: usize, least: usize, slack: usize, free: usize) -> bool
+        requires { ⌜ least ≤ 400000000 ⌝ }
+        requires { ⌜ slack ≤ 96 ⌝ }
+        requires { ⌜ free ≤ 8000001 ⌝ }
+        ensures { λ r. ⌜ r ≡ range.exact kind least slack free self ⌝ }
+    {
+        let start = state::minus(self.taken, self.field.have);
+        let last = state::minus(TransactionDecoder::LIMIT, self.field.width);
+        let low = least + self.own(kind);
+        (self.field.have <= self.taken)
+            & (low <= start)
+            & (start <= last)
+            & (start <= low + slack + TransactionDecoder::LIMIT * free)
+    }
+
+    fn among_inputs(self, kind: usize, before: usize, scripts: usize) -> bool
+        requires { ⌜ before ≤ 119 ⌝ }
+        requires { ⌜ scripts ≤ 1 ⌝ }
+        requires { ⌜ self .spot .index ≤ limit ⌝ }
+        requires { ⌜ self .spot .null ≤ 1 ⌝ }
+        ensures { λ r. ⌜ r ≡ amongInputs kind before scripts self ⌝ }
+    {
+        let single = state::minus(before, 8 * self.spot.null);
+        let count = size(self.counts.inputs);
+        self.exact(
+            kind,
+            single + count + 41 * self.spot.index,
+            0,
+            self.spot.index + scripts,
         )
     }
 
-    pub(crate) fn middle_range(self) -> bool
-        requires { ⌜ Fielded (self .field .width) (self .field .have) ⌝ }
-        ensures { λ r. ⌜ r ≡ (middleFirst (self .field .stage) (self .field .form) (self .field .width) (self .field .have) (self .taken) (self .counts .version) (self .counts .flag) (self .counts .locktime) (self .counts .inputs) (inputRoom self) (self .counts .outputs) (outputRoom self) (self .counts .items) (itemRoom self) (self .spot .left) (self .spot .index) (self .spot .issuance) (self .spot .null) (self .spot .empty) && middleRest (self .field .stage) (self .field .form) (self .field .width) (self .field .have) (self .taken) (self .counts .version) (self .counts .flag) (self .counts .locktime) (self .counts .inputs) (inputRoom self) (self .counts .outputs) (outputRoom self) (self .counts .items) (itemRoom self) (self .spot .left) (self .spot .index) (self .spot .issuance) (self .spot .null) (self .spot .empty)) ⌝ }
+    fn among_outputs(self, kind: usize, before: usize, slack: usize) -> bool
+        requires { ⌜ before ≤ 119 ⌝ }
+        requires { ⌜ slack ≤ 96 ⌝ }
+        requires { ⌜ self .counts .inputs ≤ limit ⌝ }
+        requires { ⌜ self .spot .index ≤ limit ⌝ }
+        ensures { λ r. ⌜ r ≡ amongOutputs kind before slack self ⌝ }
     {
-        let stage = self.field.stage;
-        let room = self.item_room();
-        let input_room = self.sizes.inputs / TransactionDecoder::INPUT_WIDTH;
-        let output_room = self.sizes.outputs / TransactionDecoder::OUTPUT_WIDTH;
-        if !middle_first(
-            stage,
-            self.field.form,
-            self.field.width,
-            self.field.have,
-            self.taken,
-            self.counts.version,
-            self.counts.flag,
-            self.counts.locktime,
-            self.counts.inputs,
-            input_room,
-            self.counts.outputs,
-            output_room,
-            self.counts.items,
-            room,
-            self.spot.left,
-            self.spot.index,
-            self.spot.issuance,
-            self.spot.null,
-            self.spot.empty,
-        ) {
+        let counts = size(self.counts.inputs) + size(self.counts.outputs);
+        let least = before + counts + 41 * self.counts.inputs + 4 * self.spot.index;
+        self.exact(kind, least, slack, self.counts.inputs + self.spot.index)
+    }
+
+    // What all inputs and outputs have with their counts.
+    fn body(self) -> usize
+        requires { ⌜ self .counts .inputs ≤ limit ⌝ }
+        requires { ⌜ self .counts .outputs ≤ limit ⌝ }
+        ensures { λ r. ⌜ Sized 180000018 r (range.body self) ⌝ }
+    {
+        let inputs = size(self.counts.inputs);
+        let outputs = size(self.counts.outputs);
+        inputs + outputs + 41 * self.counts.inputs + 4 * self.counts.outputs
+    }
+
+    fn among_witnesses(self, kind: usize, least: usize, stacks: usize, seen: usize) -> bool
+        requires { ⌜ least ≤ 400000000 ⌝ }
+        requires { ⌜ stacks ≤ 4000001 ⌝ }
+        requires { ⌜ seen ≤ 8000001 ⌝ }
+        requires { ⌜ self .counts .items ≤ 4294967295 ⌝ }
+        requires { ⌜ self .spot .empty ≤ 1 ⌝ }
+        ensures { λ r. ⌜ r ≡ amongWitnesses kind least stacks seen self ⌝ }
+    {
+        let start = state::minus(self.taken, self.field.have);
+        let last = state::minus(TransactionDecoder::LIMIT, self.field.width);
+        let low = least + self.own(kind);
+        let dark = dark(self.field.form);
+        let light = state::minus(dark, self.spot.empty);
+        (self.field.have <= self.taken)
+            & (low + self.counts.items <= start)
+            & (start <= last)
+            & (low + light <= start)
+            & (self.counts.items + TransactionDecoder::LIMIT * self.spot.empty
+                <= TransactionDecoder::LIMIT)
+            & (self.counts.items <= TransactionDecoder::LIMIT * stacks)
+            & (self.spot.empty <= dark)
+            & (dark <= self.spot.empty + seen)
+    }
+
+    // ---- the rows
+
+    // Stages 0 to 2: nothing of free length was read, so the bytes taken are known.
+    fn in_opening(self, kind: usize, before: usize, version: usize, flag: usize) -> bool
+        requires { ⌜ before ≤ 119 ⌝ }
+        ensures { λ r. ⌜ r ≡ inOpening kind before version flag self ⌝ }
+    {
+        let open = self.field_range(kind);
+        let exact = self.exact(kind, before, 0, 0);
+        open
+            & exact
+            & (self.counts.version <= version)
+            & (self.counts.flag <= flag)
+            & (self.counts.inputs == 0)
+            & (self.counts.outputs == 0)
+            & (self.counts.items == 0)
+            & (self.counts.locktime == 0)
+            & (self.spot.index == 0)
+            & (self.spot.left == 0)
+            & (self.spot.issuance == 0)
+            & (self.spot.null == 0)
+            & (self.spot.empty == 0)
+    }
+
+    // Stages 3 to 16: there are no witnesses yet.
+    fn unwitnessed(self) -> bool
+        ensures { λ r. ⌜ r ≡ unwitnessed self ⌝ }
+    {
+        (self.counts.version <= GREATEST_U32)
+            & (self.counts.flag <= 255)
+            & (self.counts.inputs <= self.sizes.inputs / TransactionDecoder::INPUT_WIDTH)
+            & (self.counts.items == 0)
+            & (self.counts.locktime == 0)
+            & (self.spot.index <= TransactionDecoder::LIMIT)
+            & (self.spot.left == 0)
+            & (self.spot.empty == 0)
+    }
+
+    // Stages 3 to 10: a field of an input.
+    fn input_numbers(self, kind: usize, least: usize, greatest: usize, null: usize) -> bool
+        ensures { λ r. ⌜ r ≡ inputNumbers kind least greatest null self ⌝ }
+    {
+        let open = self.field_range(kind);
+        let numbers = self.unwitnessed();
+        open
+            & numbers
+            & (self.counts.outputs == 0)
+            & (self.spot.index < self.counts.inputs)
+            & (least <= self.spot.issuance)
+            & (self.spot.issuance <= greatest)
+            & (self.spot.null <= null)
+    }
+
+    fn in_input(
+        self,
+        kind: usize,
+        before: usize,
+        least: usize,
+        greatest: usize,
+        null: usize,
+        scripts: usize,
+    ) -> bool
+        requires { ⌜ before ≤ 119 ⌝ }
+        requires { ⌜ null ≤ 1 ⌝ }
+        requires { ⌜ scripts ≤ 1 ⌝ }
+        ensures { λ r. ⌜ r ≡ inInput kind before least greatest null scripts self ⌝ }
+    {
+        if !self.input_numbers(kind, least, greatest, null) {
             return false;
         }
-        middle_rest(
-            stage,
-            self.field.form,
-            self.field.width,
-            self.field.have,
-            self.taken,
-            self.counts.version,
-            self.counts.flag,
-            self.counts.locktime,
-            self.counts.inputs,
-            input_room,
-            self.counts.outputs,
-            output_room,
-            self.counts.items,
-            room,
-            self.spot.left,
-            self.spot.index,
-            self.spot.issuance,
-            self.spot.null,
-            self.spot.empty,
+        self.among_inputs(kind, before, scripts)
+    }
+
+    // Stage 11.
+    fn inputs_numbers(self, kind: usize) -> bool
+        ensures { λ r. ⌜ r ≡ inputsNumbers kind self ⌝ }
+    {
+        let open = self.field_range(kind);
+        let numbers = self.unwitnessed();
+        open
+            & numbers
+            & (self.counts.outputs == 0)
+            & (self.spot.index == self.counts.inputs)
+            & (self.spot.issuance == 0)
+            & (self.spot.null == 0)
+    }
+
+    fn behind_inputs(self, kind: usize, before: usize) -> bool
+        requires { ⌜ before ≤ 119 ⌝ }
+        ensures { λ r. ⌜ r ≡ behindInputs kind before self ⌝ }
+    {
+        if !self.inputs_numbers(kind) {
+            return false;
+        }
+        self.among_inputs(kind, before, 0)
+    }
+
+    // Stages 12 to 15: a field of an output.
+    fn output_numbers(self, kind: usize) -> bool
+        ensures { λ r. ⌜ r ≡ outputNumbers kind self ⌝ }
+    {
+        let open = self.field_range(kind);
+        let numbers = self.unwitnessed();
+        open
+            & numbers
+            & (self.counts.inputs <= TransactionDecoder::LIMIT)
+            & (self.counts.outputs <= self.sizes.outputs / TransactionDecoder::OUTPUT_WIDTH)
+            & (self.spot.index < self.counts.outputs)
+            & (self.spot.issuance == 0)
+            & (self.spot.null == 0)
+    }
+
+    fn in_output(self, kind: usize, before: usize, slack: usize) -> bool
+        requires { ⌜ before ≤ 119 ⌝ }
+        requires { ⌜ slack ≤ 96 ⌝ }
+        ensures { λ r. ⌜ r ≡ inOutput kind before slack self ⌝ }
+    {
+        if !self.output_numbers(kind) {
+            return false;
+        }
+        self.among_outputs(kind, before, slack)
+    }
+
+    // Stage 16.
+    fn outputs_numbers(self, kind: usize) -> bool
+        ensures { λ r. ⌜ r ≡ outputsNumbers kind self ⌝ }
+    {
+        let open = self.field_range(kind);
+        let numbers = self.unwitnessed();
+        open
+            & numbers
+            & (self.counts.inputs <= TransactionDecoder::LIMIT)
+            & (self.counts.outputs <= self.sizes.outputs / TransactionDecoder::OUTPUT_WIDTH)
+            & (self.spot.index == self.counts.outputs)
+            & (self.spot.issuance == 0)
+            & (self.spot.null == 0)
+    }
+
+    fn behind_outputs(self, kind: usize, before: usize) -> bool
+        requires { ⌜ before ≤ 119 ⌝ }
+        ensures { λ r. ⌜ r ≡ behindOutputs kind before self ⌝ }
+    {
+        if !self.outputs_numbers(kind) {
+            return false;
+        }
+        self.among_outputs(kind, before, 0)
+    }
+
+    // Stages 17 to 24: the witnesses.
+    fn witness_numbers(self, kind: usize) -> bool
+        ensures { λ r. ⌜ r ≡ witnessNumbers kind self ⌝ }
+    {
+        let open = self.field_range(kind);
+        let room = self.item_room();
+        open
+            & (self.counts.version <= GREATEST_U32)
+            & (self.counts.flag == 1)
+            & (self.counts.inputs <= self.sizes.inputs / TransactionDecoder::INPUT_WIDTH)
+            & (self.counts.inputs <= TransactionDecoder::LIMIT)
+            & (self.counts.outputs <= self.sizes.outputs / TransactionDecoder::OUTPUT_WIDTH)
+            & (self.counts.outputs <= TransactionDecoder::LIMIT)
+            & (self.counts.items <= room)
+            & (self.counts.locktime <= GREATEST_U32)
+            & (self.spot.issuance == 0)
+            & (self.spot.null == 0)
+            & (self.spot.empty <= 1)
+    }
+
+    // Stages 17 to 19, and 21: a field of an input's witness.
+    fn input_witness_numbers(self, kind: usize) -> bool
+        ensures { λ r. ⌜ r ≡ inputWitnessNumbers kind self ⌝ }
+    {
+        let numbers = self.witness_numbers(kind);
+        numbers & (self.spot.index < self.counts.inputs) & (self.spot.left == 0)
+    }
+
+    fn in_input_witness(self, kind: usize, before: usize, stacks: usize, seen: usize) -> bool
+        requires { ⌜ before ≤ 119 ⌝ }
+        requires { ⌜ stacks ≤ 1 ⌝ }
+        requires { ⌜ seen ≤ 1 ⌝ }
+        ensures { λ r. ⌜ r ≡ inInputWitness kind before stacks seen self ⌝ }
+    {
+        if !self.input_witness_numbers(kind) {
+            return false;
+        }
+        let index = self.spot.index;
+        let body = self.body();
+        let least = before + body + 4 * index;
+        self.among_witnesses(kind, least, index + stacks, index + seen)
+    }
+
+    // Stages 20 and 22: an item.
+    fn stack_numbers(self, kind: usize) -> bool
+        ensures { λ r. ⌜ r ≡ stackNumbers kind self ⌝ }
+    {
+        let room = state::minus(self.item_room(), self.counts.items);
+        let numbers = self.witness_numbers(kind);
+        numbers
+            & (self.spot.index < self.counts.inputs)
+            & (1 <= self.spot.left)
+            & (self.spot.left <= room)
+            & (self.spot.empty == 0)
+    }
+
+    fn in_stack(self, kind: usize, before: usize) -> bool
+        requires { ⌜ before ≤ 119 ⌝ }
+        ensures { λ r. ⌜ r ≡ inStack kind before self ⌝ }
+    {
+        if !self.stack_numbers(kind) {
+            return false;
+        }
+        let count = size(self.spot.left);
+        let body = self.body();
+        self.lies(
+            kind,
+            before + body + count + 4 * self.spot.index + self.counts.items,
         )
     }
 
-    pub(crate) fn late_range(self) -> bool
-        requires { ⌜ Fielded (self .field .width) (self .field .have) ⌝ }
-        ensures { λ r. ⌜ r ≡ (lateFirst (self .field .stage) (self .field .form) (self .field .width) (self .field .have) (self .taken) (self .counts .version) (self .counts .flag) (self .counts .locktime) (self .counts .inputs) (inputRoom self) (self .counts .outputs) (outputRoom self) (self .counts .items) (itemRoom self) (self .spot .left) (self .spot .index) (self .spot .issuance) (self .spot .null) (self .spot .empty) && lateRest (self .field .stage) (self .field .form) (self .field .width) (self .field .have) (self .taken) (self .counts .version) (self .counts .flag) (self .counts .locktime) (self .counts .inputs) (inputRoom self) (self .counts .outputs) (outputRoom self) (self .counts .items) (itemRoom self) (self .spot .left) (self .spot .index) (self .spot .issuance) (self .spot .null) (self .spot .empty)) ⌝ }
+    // Stages 23 and 24: a field of an output's witness.
+    fn output_witness_numbers(self, kind: usize) -> bool
+        ensures { λ r. ⌜ r ≡ outputWitnessNumbers kind self ⌝ }
     {
-        let stage = self.field.stage;
-        let room = self.item_room();
-        let input_room = self.sizes.inputs / TransactionDecoder::INPUT_WIDTH;
-        let output_room = self.sizes.outputs / TransactionDecoder::OUTPUT_WIDTH;
-        if !late_first(
-            stage,
-            self.field.form,
-            self.field.width,
-            self.field.have,
-            self.taken,
-            self.counts.version,
-            self.counts.flag,
-            self.counts.locktime,
-            self.counts.inputs,
-            input_room,
-            self.counts.outputs,
-            output_room,
-            self.counts.items,
-            room,
-            self.spot.left,
-            self.spot.index,
-            self.spot.issuance,
-            self.spot.null,
-            self.spot.empty,
-        ) {
+        let numbers = self.witness_numbers(kind);
+        numbers & (self.spot.index < self.counts.outputs) & (self.spot.left == 0)
+    }
+
+    fn in_output_witness(self, kind: usize, before: usize, seen: usize) -> bool
+        requires { ⌜ before ≤ 119 ⌝ }
+        requires { ⌜ seen ≤ 1 ⌝ }
+        ensures { λ r. ⌜ r ≡ inOutputWitness kind before seen self ⌝ }
+    {
+        if !self.output_witness_numbers(kind) {
             return false;
         }
-        late_rest(
-            stage,
-            self.field.form,
-            self.field.width,
-            self.field.have,
-            self.taken,
-            self.counts.version,
-            self.counts.flag,
-            self.counts.locktime,
-            self.counts.inputs,
-            input_room,
-            self.counts.outputs,
-            output_room,
-            self.counts.items,
-            room,
-            self.spot.left,
-            self.spot.index,
-            self.spot.issuance,
-            self.spot.null,
-            self.spot.empty,
-        )
+        let inputs = self.counts.inputs;
+        let index = self.spot.index;
+        let body = self.body();
+        let least = before + body + 4 * inputs + 2 * index;
+        self.among_witnesses(kind, least, inputs, inputs + index + seen)
     }
 
     // Stage 25: finished.
@@ -878,35 +703,60 @@ impl TransactionDecoder {
             & (self.spot.empty == 0)
     }
 
+    fn finished_range(self) -> bool
+        ensures { λ r. ⌜ r ≡ (endedRange self && wholeRange self) ⌝ }
+    {
+        if !self.ended_range() {
+            return false;
+        }
+        self.whole_range()
+    }
+
+    fn refusal_range(self) -> bool
+        ensures { λ r. ⌜ r ≡ (refusedRange self && placedFits (self .field .value) (self .field .have) (self .taken)) ⌝ }
+    {
+        if !self.refused_range() {
+            return false;
+        }
+        placed_fits(self.field.value, self.field.have, self.taken)
+    }
+
+    // ---- one row a stage
+
     // Whether the state is within its range.
     pub(crate) fn in_range(self) -> bool
         ensures { λ r. ⌜ r ≡ inRange self ⌝ }
     {
         let stage = self.field.stage;
-        if stage <= stages::RANGE_PROOF {
-            if !self.field_range() {
-                return false;
-            }
-            if stage <= stages::INPUT_COUNT {
-                return self.opening_range();
-            }
-            if stage <= stages::LOCKTIME {
-                return self.middle_range();
-            }
-            return self.late_range();
+        match stage {
+            stages::VERSION => self.in_opening(NUMBER, 0, 0, 0),
+            stages::FLAG => self.in_opening(BYTE, 4, GREATEST_U32, 0),
+            stages::INPUT_COUNT => self.in_opening(COUNT, 5, GREATEST_U32, 255),
+            stages::TXID => self.in_input(HIDDEN, 5, 0, 0, 0, 0),
+            stages::VOUT => self.in_input(NUMBER, 37, 0, 0, 0, 0),
+            stages::INPUT_SCRIPT => self.in_input(BODY, 41, 0, 1, 0, 0),
+            stages::SEQUENCE => self.in_input(NUMBER, 42, 0, 1, 0, 1),
+            stages::BLINDING_NONCE => self.in_input(HIDDEN, 46, 1, 1, 0, 1),
+            stages::ENTROPY => self.in_input(HIDDEN, 78, 1, 1, 0, 1),
+            stages::ISSUANCE_AMOUNT => self.in_input(AMOUNT, 110, 1, 1, 0, 1),
+            stages::INFLATION_KEYS => self.in_input(AMOUNT, 119, 1, 1, 1, 1),
+            stages::OUTPUT_COUNT => self.behind_inputs(COUNT, 5),
+            stages::ASSET => self.in_output(TOKEN, 5, 0),
+            stages::VALUE => self.in_output(AMOUNT, 6, 32),
+            stages::NONCE => self.in_output(TOKEN, 7, 64),
+            stages::OUTPUT_SCRIPT => self.in_output(BODY, 8, 96),
+            stages::LOCKTIME => self.behind_outputs(NUMBER, 5),
+            stages::AMOUNT_PROOF => self.in_input_witness(BODY, 9, 0, 0),
+            stages::KEYS_PROOF => self.in_input_witness(BODY, 10, 0, 1),
+            stages::SCRIPT_COUNT => self.in_input_witness(COUNT, 11, 0, 1),
+            stages::SCRIPT_ITEM => self.in_stack(BODY, 11),
+            stages::PEGIN_COUNT => self.in_input_witness(COUNT, 12, 1, 1),
+            stages::PEGIN_ITEM => self.in_stack(BODY, 12),
+            stages::SURJECTION_PROOF => self.in_output_witness(BODY, 9, 0),
+            stages::RANGE_PROOF => self.in_output_witness(BODY, 10, 1),
+            stages::FINISHED => self.finished_range(),
+            stages::REFUSED => self.refusal_range(),
+            _ => false,
         }
-        if stage == stages::FINISHED {
-            if !self.ended_range() {
-                return false;
-            }
-            return self.whole_range();
-        }
-        if stage == stages::REFUSED {
-            if !self.refused_range() {
-                return false;
-            }
-            return placed_fits(self.field.value, self.field.have, self.taken);
-        }
-        false
     }
 }

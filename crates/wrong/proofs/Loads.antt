@@ -16,7 +16,7 @@ use Rattle.layout.specs.Outcome.{Tables, laid}
 use Rattle.decoders.specs.declared.Answer.{Answer}
 use Rattle.decoders.specs.declared.Answer.the-variants.{Finished, More, Refused}
 use Rattle.decoders.specs.Machine.{State, opened, nextInput, nextOutput, witnessesEnd, nextOutputWitness, nextInputWitness, nextScriptItem, nextPeginItem, bodyEnds, emptied, bodyEntered, bodySeen, bodyOpened, lengthSettled, inputsCounted, outputsCounted, scriptCounted, peginCounted, compactSettled, firstSettled, furtherSettled, valuePart, assetPart, noncePart, amountNext, nullKeysNext, keysNext, assetNext, valueNext, nonceNext, sequenceNext, locktimeNext, littleSettled, bigSettled, opaqueSettled, settleBy, worth, entering, step, fed, answerOf, field, withField}
-use Rattle.decoders.specs.Range.{leastWidth, greatestWidth, size, ownBytes, headFits, countsFit, spotFits, numbersRange, fieldRange, fewFit, placeFits, placeRange, endedRange, wholeFits, wholeRange, refusedRange, placedFits, inRange}
+use Rattle.decoders.specs.Range.{leastWidth, greatestWidth, size, ownBytes, fieldRange, exact, amongInputs, amongOutputs, amongWitnesses, inOpening, unwitnessed, inputNumbers, inInput, inputsNumbers, behindInputs, outputNumbers, inOutput, outputsNumbers, behindOutputs, witnessNumbers, inputWitnessNumbers, inInputWitness, stackNumbers, inStack, outputWitnessNumbers, inOutputWitness, endedRange, wholeFits, wholeRange, refusedRange, placedFits, inRange}
 use Rattle.decoders.specs.Feeding.{tables, cleared, begun, gate, closed, pushed, finish, follow, ended}
 
 -- ---- bytes: two hexadecimal digits each; spaces are for the eye
@@ -44,7 +44,7 @@ unfolding digits paired value run laid
     emptied bodyEntered bodySeen bodyOpened lengthSettled inputsCounted outputsCounted scriptCounted peginCounted compactSettled
     firstSettled furtherSettled valuePart assetPart noncePart amountNext nullKeysNext keysNext assetNext valueNext nonceNext
     sequenceNext locktimeNext littleSettled bigSettled opaqueSettled settleBy worth entering step fed answerOf
-    leastWidth greatestWidth size ownBytes headFits countsFit spotFits numbersRange fieldRange fewFit placeFits placeRange endedRange wholeFits wholeRange refusedRange placedFits inRange
+    leastWidth greatestWidth size ownBytes fieldRange exact amongInputs amongOutputs amongWitnesses inOpening unwitnessed inputNumbers inInput inputsNumbers behindInputs outputNumbers inOutput outputsNumbers behindOutputs witnessNumbers inputWitnessNumbers inInputWitness stackNumbers inStack outputWitnessNumbers inOutputWitness endedRange wholeFits wholeRange refusedRange placedFits inRange
     gate closed pushed finish follow ended
 computes = tt
 

@@ -26,7 +26,10 @@ unfolding greatestWidth
 narrow k f ne = simp (ne-eqb f 2 ne) (narrow-by (eqb f 0) (eqb f 1) (eqb f 3) (eqb k 0))
 
 abbrev self : tie.Else6 → State
-self c = c .before .before .before .before .before .before .before .before .before .before .before .before .before .before .before .before .before .before .args .self
+self c = c .before .before .before .before .before .before .before .before .before .before .before .before .before .before .before .before .before .args .self
+
+abbrev kind : tie.Else6 → ℕ
+kind c = c .before .before .before .before .before .before .before .before .before .before .before .before .before .before .before .before .before .args .kind
 
 abbrev valueFits : State → Bool
 valueFits s = cond (eqb (s .field .form) OPAQUE) (eqb (s .field .value) 0) (ltb (s .field .value) (256 ^ s .field .have))
@@ -37,7 +40,7 @@ of-opaque s e = simp (eq-eqb (s .field .form) 2 e)
 of-number : (s : State) → (s .field .form ≡ OPAQUE → ⊥) → s .field .have ≤ 7 → ltb (s .field .value) (256 ^ min (s .field .have) 7) ≡ valueFits s
 of-number s ne few = simp (ne-eqb (s .field .form) 2 ne, min-eq-left few)
 
-to-value : (c : tie.Else6) → valueFits (self c) ≡ fieldRange (self c)
+to-value : (c : tie.Else6) → valueFits (self c) ≡ fieldRange (kind c) (self c)
 unfolding fieldRange
 to-value c =
     let c5 = c .before .before in
@@ -49,45 +52,41 @@ to-value c =
     let most = c2 .before .before in
     let c1 = most .before in
     let first = c1 .before .before in
-    let k = first .before .kind .ensures in
     last
-    ((simp (first .least-form .ensures, k) at (le-leb _ _ (c1 .if1 .left)))
-    and (simp (most .greatest-form .ensures, k) at (le-leb _ _ (c2 .if2 .left)))
-    and (simp (least .least-width .ensures, k) at (le-leb _ _ (c3 .if3 .left)))
-    and (simp (greatest .greatest-width .ensures, k) at (le-leb _ _ (c4 .if4 .left)))
+    ((simp (first .least-form .ensures) at (le-leb _ _ (c1 .if1 .left)))
+    and (simp (most .greatest-form .ensures) at (le-leb _ _ (c2 .if2 .left)))
+    and (simp (least .least-width .ensures) at (le-leb _ _ (c3 .if3 .left)))
+    and (simp (greatest .greatest-width .ensures) at (le-leb _ _ (c4 .if4 .left)))
     and on (c5 .before .either .ensures) (c5 .if5 .left)
     and lt-ltb _ _ (c .if6 .left))
-
-kind-requires : tie.Need-kind-requires
-kind-requires c κs = search needs
 
 least-form-requires : tie.Need-least-form-requires
 least-form-requires c κs = search needs
 
 returns : tie.Need-returns
 unfolding fieldRange
-returns c = simp (← c .before .before .before .kind .ensures, ← c .before .before .least-form .ensures, lt-leb _ _ (c .if1 .taken))
+returns c = simp (← c .before .before .least-form .ensures, lt-leb _ _ (c .if1 .taken))
 
 greatest-form-requires : tie.Need-greatest-form-requires
 greatest-form-requires c κs = search needs
 
 returns-2 : tie.Need-returns-2
 unfolding fieldRange
-returns-2 c = simp (← c .before .before .before .before .before .before .kind .ensures, ← c .before .before .greatest-form .ensures, lt-leb _ _ (c .if2 .taken), and-false)
+returns-2 c = simp (← c .before .before .greatest-form .ensures, lt-leb _ _ (c .if2 .taken), and-false)
 
 least-width-requires : tie.Need-least-width-requires
 least-width-requires c κs = search needs
 
 returns-3 : tie.Need-returns-3
 unfolding fieldRange
-returns-3 c = simp (← c .before .before .before .before .before .before .before .before .before .kind .ensures, ← c .before .before .least-width .ensures, lt-leb _ _ (c .if3 .taken), and-false)
+returns-3 c = simp (← c .before .before .least-width .ensures, lt-leb _ _ (c .if3 .taken), and-false)
 
 greatest-width-requires : tie.Need-greatest-width-requires
 greatest-width-requires c κs = search needs
 
 returns-4 : tie.Need-returns-4
 unfolding fieldRange
-returns-4 c = simp (← c .before .before .before .before .before .before .before .before .before .before .before .before .kind .ensures, ← c .before .before .greatest-width .ensures, lt-leb _ _ (c .if4 .taken), and-false)
+returns-4 c = simp (← c .before .before .greatest-width .ensures, lt-leb _ _ (c .if4 .taken), and-false)
 
 either-requires : tie.Need-either-requires
 either-requires c κs = search needs
@@ -110,7 +109,7 @@ returns-8 : tie.Need-returns-8
 returns-8 c =
     let c7 = c .before .before in
     let c6 = c7 .before .before in
-    let k = c6 .before .before .before .before .before .before .before .before .before .before .before .before .before .before .before .before .before .kind .result in
+    let k = kind c6 in
     let c4 = c6 .before .before .before .before .before in
     let few : self c6 .field .have ≤ 7 = omega (arith, narrow k (self c6 .field .form) (c7 .if7 .left), c6 .if6 .left, c4 .if4 .left, c4 .before .before .greatest-width .ensures) in
     ap (ltb (self c6 .field .value)) (c .before .power .ensures) ∙ of-number (self c6) (c7 .if7 .left) few ∙ to-value c6
@@ -119,7 +118,6 @@ pub field-range-spec : {M : Type 1} → statement M
 field-range-spec =
     tie.close
     (tie.spec
-    kind-requires
     least-form-requires
     returns
     greatest-form-requires
