@@ -6,7 +6,7 @@ use native.Mathlib.Omega.{arith}
 use lib.ListN.{length, drop, length-take, length-drop}
 use borrow.Rule.Slice.PartMut.{midOf}
 use Rattle.command.specs.declared.Taken.{Taken}
-use Rattle.command.specs.declared.Taken.the-variants.{Whole, Longer, Failed}
+use Rattle.command.specs.declared.Taken.the-variants.{Whole, Longer, Nothing}
 use Rattle.command.specs.declared.Step.{Step}
 use Rattle.command.specs.declared.Step.the-variants.{Came, End, Broken}
 use Rattle.command.specs.Within.{Within, Moves}
@@ -18,7 +18,7 @@ came s k most h e = subst (λ (x : Step). Moves x most) e h
 pub within-more : (t : Taken) (n most : ℕ) → Within t n → n ≤ most → Within t most
 within-more (Whole k) n most h p = omega arith
 within-more Longer n most h p = tt
-within-more Failed n most h p = tt
+within-more Nothing n most h p = tt
 
 -- the same of a read into the rest of a buffer, from n on
 pub came-rest : (s : Step) (k n : ℕ) (buffer : List ℕ) → n ≤ length buffer → Moves s (length (midOf n (length buffer - n) buffer)) → s ≡ Came k → (0 < k) × (n + k ≤ length buffer)

@@ -6,11 +6,11 @@ use libc::STDIN_FILENO;
 use libc::STDOUT_FILENO;
 
 // What came of the input. Whole: it ended after so many bytes, which stand at the buffer's start. Longer: the buffer is full, and at least
-// one byte follows. Failed: the call was wrong or something could not be read, and standard error says so.
+// one byte follows. Nothing: help was asked for and printed; or the call was wrong or something could not be read, and standard error says so.
 pub enum Taken {
     Whole(usize),
     Longer,
-    Failed,
+    Nothing,
 }
 
 // What one read brought.
@@ -43,7 +43,7 @@ fn beyond(fd: i32, n: usize) -> Taken
     match last {
         Step::Came(_) => Taken::Longer,
         Step::End => Taken::Whole(n),
-        Step::Broken => Taken::Failed,
+        Step::Broken => Taken::Nothing,
     }
 }
 
@@ -62,7 +62,7 @@ fn fill(fd: i32, buffer: &mut [u8]) -> Taken
                 return Taken::Whole(n);
             }
             Step::Broken => {
-                return Taken::Failed;
+                return Taken::Nothing;
             }
         }
     }
@@ -74,7 +74,7 @@ fn told(fd: i32, name: &[u8], buffer: &mut [u8]) -> Taken
     ensures { λ r. ⌜ Within r (length (now (buffer .entry))) ⌝ }
 {
     let taken = fill(fd, buffer);
-    if let Taken::Failed = taken {
+    if let Taken::Nothing = taken {
         os::fail(name);
     }
     taken
@@ -82,6 +82,22 @@ fn told(fd: i32, name: &[u8], buffer: &mut [u8]) -> Taken
 
 fn is_dash(path: &[u8]) -> bool {
     path.len() == 1 && path[0] == b'-'
+}
+
+// `-h` or `--help`. A file of that name is `./-h`.
+fn is_help(word: &[u8]) -> bool {
+    if word.len() == 2 {
+        return word[0] == b'-' && word[1] == b'h';
+    }
+    if word.len() != 6 {
+        return false;
+    }
+    word[0] == b'-'
+        && word[1] == b'-'
+        && word[2] == b'h'
+        && word[3] == b'e'
+        && word[4] == b'l'
+        && word[5] == b'p'
 }
 
 fn from_path(path: &[u8], buffer: &mut [u8]) -> Taken
@@ -93,7 +109,7 @@ fn from_path(path: &[u8], buffer: &mut [u8]) -> Taken
     let fd = os::open_read(path);
     if fd < 0 {
         os::fail(path);
-        return Taken::Failed;
+        return Taken::Nothing;
     }
     let taken = told(fd, path, buffer);
     libc::close(fd);
@@ -101,13 +117,14 @@ fn from_path(path: &[u8], buffer: &mut [u8]) -> Taken
 }
 
 // Reads the program's input into the buffer: the file that its one argument names; standard input where there is none, or `-`. Whatever goes
-// wrong is one line on standard error: the usage where there are more arguments, else the file's name and the reason.
-pub fn take(usage: &[u8], buffer: &mut [u8]) -> Taken
+// wrong is one line on standard error: the usage where there are more arguments, else the file's name and the reason. Where help is asked for,
+// usage and help are printed and nothing is read.
+pub fn take(usage: &[u8], help: &[u8], buffer: &mut [u8]) -> Taken
     ensures { λ r. ⌜ Within r (length (now (buffer .entry))) ⌝ }
 {
     if 2 < os::arg_count() {
         io::write_all(STDERR_FILENO, usage);
-        return Taken::Failed;
+        return Taken::Nothing;
     }
     let mut path = io::buffer();
     let n = os::arg(1, &mut path);
@@ -117,7 +134,12 @@ pub fn take(usage: &[u8], buffer: &mut [u8]) -> Taken
     }
     if error != 0 {
         os::fail(b"file name");
-        return Taken::Failed;
+        return Taken::Nothing;
+    }
+    if is_help(&path[..n]) {
+        text(usage);
+        text(help);
+        return Taken::Nothing;
     }
     from_path(&path[..n], buffer)
 }

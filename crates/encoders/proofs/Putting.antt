@@ -145,7 +145,7 @@ pub body-bytes : (source : List ℕ) (at n : ℕ) → at + n ≤ length source �
 unfolding bodyBytes
 body-bytes source at n h = ap (λ (m : ℕ). compactBytes m ++ body source at n) (body-length source at n h)
 
-body-cons : (source : List ℕ) (at n i : ℕ) → at + n ≤ length source → i < n → drop i (body source at n) ≡ getD source (at + i) 0 ∷ drop (i + 1) (body source at n)
+pub body-cons : (source : List ℕ) (at n i : ℕ) → at + n ≤ length source → i < n → drop i (body source at n) ≡ getD source (at + i) 0 ∷ drop (i + 1) (body source at n)
 unfolding body
 body-cons source at n i h less =
     drop-cons (take n (drop at source)) i 0 (omega (arith, body-length source at n h))

@@ -40,7 +40,7 @@ row-ready {w} {n} {P} {t} {i} h less = subst P (row-is w t i) (h .each i less)
 pub row-within : {w n i : ℕ} {P : List ℕ → Type 0} {t : List ℕ} → Rows w n P t → i < n → w * i + w ≤ length t
 row-within {w} {n} {i} h less = omega (arith, h .long, mul-suc w i, mul-le-mul-left w less)
 
-rows-cons : (f : List ℕ → List ℕ) (w n : ℕ) (t : List ℕ) (i : ℕ) → i < n → flat f (drop i (records w n t)) ≡ f (row w t i) ++ flat f (drop (i + 1) (records w n t))
+pub rows-cons : (f : List ℕ → List ℕ) (w n : ℕ) (t : List ℕ) (i : ℕ) → i < n → flat f (drop i (records w n t)) ≡ f (row w t i) ++ flat f (drop (i + 1) (records w n t))
 unfolding flat
 rows-cons f w n t i h =
     ap (flat f) (records-cons w n t i h)

@@ -67,7 +67,7 @@ parts h t source =
 flag-is : (flag : ℕ) (x : Witnesses) → flag ≤ 1 → flagOf (cond (eqb flag 1) (some x) none) ≡ flag
 flag-is flag x h = by-cases (eqb flag 1) (λ t. rw t (sym (eqb-true flag 1 t))) (λ t. rw t (let d = eqb-false flag 1 t in omega arith))
 
-written-parts : (h : Head) (t : Tables) (source : List ℕ) → h .flag ≤ 1 → writtenBytes h t source ≡ parts h t source
+pub written-parts : (h : Head) (t : Tables) (source : List ℕ) → h .flag ≤ 1 → writtenBytes h t source ≡ parts h t source
 unfolding contentsBytes contentsOf
 written-parts h t source small =
     let end : List ℕ = bytesOf little 4 (h .locktime) ++ maybe h t source in

@@ -15,7 +15,8 @@ use Rattle.decoders.specs.Machine.{State, machine}
 use Rattle.decoders.specs.Feeding.{layoutSizes, begun, pushed, ended}
 use Rattle.decoders.proofs.Theorems.{join}
 use Rattle.gate.specs.declared.Line.{Line}
-use Rattle.gate.specs.Verdict.{lineOf, verdictOf, isRefused}
+use Rattle.gate.specs.Text.{digitsIn, lineBytes}
+use Rattle.gate.specs.Verdict.{line, lineOf, verdictOf, isRefused}
 use Rattle.gate.proofs.Hearing.{Heard, fresh-heard, fresh-sizes, heard-on, settled-follows, settled-refused, heard-ends}
 
 -- what `listen` does, piece by piece; the list's end is the input's
@@ -49,3 +50,12 @@ unfolding fresh-heard
 gate-strict t ps w =
     listening-strict ps w (begun t .tables) (begun t .tables) (begun t .state) (fresh-heard t (begun t .tables) (begun t .state) refl)
     ∙ ap (λ (z : outcome.Sizes). lineOf (strict z (join ps) .answer)) (fresh-sizes t (begun t .tables) (begun t .state) refl)
+
+-- and so are the bytes that are printed
+pub gate-prints : (t : Tables) (ps : List (List ℕ)) → Pieces ps → lineBytes (listening (begun t .state) (begun t .tables) ps) ≡ lineBytes (lineOf (strict (layoutSizes t) (join ps) .answer))
+gate-prints t ps w = ap lineBytes (gate-strict t ps w)
+
+-- of 01's 96-byte load: `0 0 1 1 0` and a line feed
+pub load-text : lineBytes (line 0 0 1 1 0) ≡ 48 ∷ 32 ∷ 48 ∷ 32 ∷ 49 ∷ 32 ∷ 49 ∷ 32 ∷ 48 ∷ 10 ∷ []
+unfolding digitsIn
+load-text = refl

@@ -1,1 +1,3 @@
+-- Verdict: what the gate promises. Text: the line as bytes.
+pub mod Text
 pub mod Verdict

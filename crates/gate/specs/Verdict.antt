@@ -1,9 +1,10 @@
 -- What the gate promises: the line of the strict form's answer.
-use Prim.Native.Nat.{ℕ}
+use Prim.Native.Nat.{ℕ, _≤_}
 use mathlib.Core.Path.{_≡_}
 use mathlib.Core.Bool.{Bool, true, false, cond}
 use mathlib.Core.List.{List, _++_}
 use mathlib.Core.Option.{Option, none, some}
+use lib.ListN.{length, take}
 use Rattle.layout.specs.Number.{Bytes}
 use Rattle.layout.specs.Layout as layout
 use Rattle.layout.specs.Transaction as transaction
@@ -13,6 +14,9 @@ use Rattle.decoders.specs.declared.Answer.the-variants.{Finished, More, Refused
 use Rattle.gate.specs.declared.Line.{Line}
 use Rattle.gate.specs.declared.Seen.{Seen}
 use Rattle.gate.specs.declared.Seen.the-variants.{Ended, Settled, Failed}
+use Rattle.gate.specs.declared.Said.{Said}
+use Rattle.gate.specs.declared.Said.the-variants as said
+use Rattle.gate.specs.Text.{lineBytes}
 
 abbrev pub line : ℕ → ℕ → ℕ → ℕ → ℕ → Line
 line n p i o k = record { number = n; place = p; inputs = i; outputs = o; items = k }
@@ -53,3 +57,29 @@ abbrev pub Judged : outcome.Sizes → Seen → Type 0
 Judged z (Ended l) = EndedAt z l
 Judged z (Settled l) = SettledAt z l
 Judged z Failed = Unit {0}
+
+-- The bytes that are printed, the first n of the text, are the line of the strict form's answer: to the bytes read,
+pub record EndedIn (z : outcome.Sizes) (text : List ℕ) (n : ℕ) : Type 0 where
+  pub read : List ℕ
+  pub bytes : Bytes read
+  pub there : n ≤ length text
+  pub told : take n text ≡ lineBytes (lineOf (outcome.strict z read .answer))
+
+-- or to these, whatever follows them.
+pub record SettledIn (z : outcome.Sizes) (text : List ℕ) (n : ℕ) : Type 0 where
+  pub read : List ℕ
+  pub bytes : Bytes read
+  pub there : n ≤ length text
+  pub told : (ys : List ℕ) → take n text ≡ lineBytes (lineOf (outcome.strict z (read ++ ys) .answer))
+
+abbrev pub Spoken : outcome.Sizes → List ℕ → Said → Type 0
+Spoken z text (said.Ended n) = EndedIn z text n
+Spoken z text (said.Settled n) = SettledIn z text n
+Spoken z text said.Failed = Unit {0}
+
+-- What the one write may be handed: the line of the strict form's answer to some bytes, for tables of some sizes.
+pub record Printed (bytes : List ℕ) : Type 0 where
+  pub sizes : outcome.Sizes
+  pub read : List ℕ
+  pub are : Bytes read
+  pub told : bytes ≡ lineBytes (lineOf (outcome.strict sizes read .answer))

@@ -1,4 +1,6 @@
 // The gate: reads a transaction from standard input and prints the strict form's answer, place, and input, output and item counts.
+mod text;
+
 use decoders::Answer;
 use decoders::TransactionDecoder;
 use libc::STDERR_FILENO;
@@ -6,7 +8,7 @@ use libc::STDIN_FILENO;
 use libc::STDOUT_FILENO;
 ghost use mathlib.Core.Path.{_≡_};
 ghost use Rattle.decoders.specs.Feeding.{tables, layoutSizes};
-ghost use Rattle.gate.specs.Verdict.{isRefused, verdictOf, Judged};
+ghost use Rattle.gate.specs.Verdict.{isRefused, verdictOf, Judged, Spoken, Printed};
 
 // The five numbers that are printed.
 pub struct Line {
@@ -21,6 +23,13 @@ pub struct Line {
 pub enum Seen {
     Ended(Line),
     Settled(Line),
+    Failed,
+}
+
+// The same, where the line stands in the text: its first bytes, so many of them.
+pub enum Said {
+    Ended(usize),
+    Settled(usize),
     Failed,
 }
 
@@ -107,32 +116,65 @@ fn listen(buffer: &mut [u8], inputs: &mut [u32], outputs: &mut [u32], items: &mu
     }
 }
 
-fn spaced(n: u32) {
-    io::write_all(STDOUT_FILENO, b" ");
-    io::print_decimal(STDOUT_FILENO, n as u64);
+// Listens, and puts the line into the text.
+fn answer(
+    buffer: &mut [u8],
+    inputs: &mut [u32],
+    outputs: &mut [u32],
+    items: &mut [u32],
+    text: &mut [u8; 105],
+) -> Said
+    ensures { λ r. ⌜ Spoken (layoutSizes (tables (now (inputs .entry)) (now (outputs .entry)) (now (items .entry)))) (now (text .exit)) r ⌝ }
+{
+    let seen = listen(buffer, inputs, outputs, items);
+    match seen {
+        Seen::Ended(line) => {
+            let n = text::put_line(line, text);
+            Said::Ended(n)
+        }
+        Seen::Settled(line) => {
+            let n = text::put_line(line, text);
+            Said::Settled(n)
+        }
+        Seen::Failed => Said::Failed,
+    }
 }
 
-fn print(line: Line) {
-    io::print_decimal(STDOUT_FILENO, line.number as u64);
-    io::write_all(STDOUT_FILENO, b" ");
-    io::print_decimal(STDOUT_FILENO, line.place as u64);
-    spaced(line.inputs);
-    spaced(line.outputs);
-    spaced(line.items);
-    io::write_all(STDOUT_FILENO, b"\n");
+// One write. A line that was cut short is none, so it is told as a write that failed.
+fn print(line: &[u8])
+    requires { ⌜ Printed (now line) ⌝ }
+{
+    let put = libc::write(STDOUT_FILENO, line);
+    if io::count(put, line) < line.len() {
+        io::write_all(
+            STDERR_FILENO,
+            b"gate: standard output could not be written\n",
+        );
+    }
 }
 
 // 65,536 bytes, and tables of 64 input, 64 output and 256 item records.
 fn main() {
+    if 1 < os::arg_count() {
+        io::write_all(STDERR_FILENO, b"usage: gate < TRANSACTION\n");
+        return;
+    }
     let mut buffer: [u8; 65536] = [0; 65536];
     let mut inputs: [u32; 1280] = [0; 1280];
     let mut outputs: [u32; 896] = [0; 896];
     let mut items: [u32; 512] = [0; 512];
-    let seen = listen(&mut buffer, &mut inputs, &mut outputs, &mut items);
-    match seen {
-        Seen::Ended(line) => print(line),
-        Seen::Settled(line) => print(line),
-        Seen::Failed => {
+    let mut text = [0u8; 105];
+    let said = answer(
+        &mut buffer,
+        &mut inputs,
+        &mut outputs,
+        &mut items,
+        &mut text,
+    );
+    match said {
+        Said::Ended(n) => print(&text[..n]),
+        Said::Settled(n) => print(&text[..n]),
+        Said::Failed => {
             io::write_all(STDERR_FILENO, b"gate: standard input could not be read\n");
         }
     }

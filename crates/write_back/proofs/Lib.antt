@@ -1,5 +1,5 @@
 -- Laws that the functions cite.
---     Agreeing  how far two lists agree
+--     Walking   bytes held beside those of the source
 --     Backing   what reading strictly and writing back makes of the same bytes
-pub mod Agreeing
+pub mod Walking
 pub mod Backing

@@ -1,5 +1,5 @@
-// Reads a transaction, writes it again from its bytes and its tables, and says whether the same bytes came out.
-mod compare;
+// Reads a transaction, holds what writing it again gives, from its bytes and its tables, beside those bytes, and says whether they are the same.
+mod beside;
 
 use command::Taken;
 use command::text;
@@ -7,10 +7,10 @@ use decoders::Answer;
 use decoders::Head;
 use decoders::TransactionDecoder;
 use encoders::Written;
-ghost use lib.ListN.{length};
+ghost use mathlib.Core.Path.{_≡_};
 ghost use Rattle.decoders.specs.Feeding.{tables, layoutSizes};
 ghost use Rattle.encoders.specs.Answers.{headNumbers};
-ghost use Rattle.write_back.specs.Back.{Compared, Rewritten, Back};
+ghost use Rattle.write_back.specs.Back.{toldOf, Rewritten, Back};
 
 // What came of it. Unwritten and Different are for a reader or a writer that breaks its promise.
 pub enum Outcome {
@@ -20,62 +20,50 @@ pub enum Outcome {
     Unwritten(usize, usize),
 }
 
+// How far the written bytes were held beside the source, and whether they are the same so far.
+pub struct Walk {
+    pub at: usize,
+    pub same: bool,
+}
+
 // One byte more than a transaction can have: what follows moves no answer (show/proofs/Theorems: limit-settles).
 fn bytes() -> [u8; 4000001] {
     [0u8; 4000001]
 }
 
-fn room() -> [u8; 4000000] {
-    [0u8; 4000000]
+// The written bytes, n of them, were held beside the source, which has so many bytes.
+fn told(walk: Walk, n: usize, there: usize) -> Outcome
+    ensures { λ r. ⌜ r ≡ toldOf walk n there ⌝ }
+{
+    if walk.same {
+        if walk.at == there {
+            return Outcome::Same(n);
+        }
+    }
+    Outcome::Different(walk.at)
 }
 
-// The written bytes, the first n of the output, beside the source.
-fn compared(source: &[u8], out: &[u8], n: usize) -> Outcome
-    ensures { λ r. ⌜ Compared (now (source .entry)) (now (out .entry)) n r ⌝ }
+// Pass 1 of writing judges head, tables and source; what pass 2 would put is held beside the source.
+fn written(head: Head, source: &[u8], inputs: &[u32], outputs: &[u32], items: &[u32]) -> Outcome
+    ensures { λ r. ⌜ Rewritten (headNumbers head) (tables (now (inputs .entry)) (now (outputs .entry)) (now (items .entry))) (now (source .entry)) r ⌝ }
 {
-    if out.len() < n {
-        return Outcome::Different(out.len());
-    }
-    let at = compare::agree(source, &out[..n]);
-    if at < n {
-        return Outcome::Different(at);
-    }
-    if at < source.len() {
-        return Outcome::Different(at);
-    }
-    Outcome::Same(n)
-}
-
-fn written(
-    head: Head,
-    source: &[u8],
-    inputs: &[u32],
-    outputs: &[u32],
-    items: &[u32],
-    out: &mut [u8],
-) -> Outcome
-    ensures { λ r. ⌜ Rewritten (headNumbers head) (tables (now (inputs .entry)) (now (outputs .entry)) (now (items .entry))) (now (source .entry)) (now (out .entry)) (now (out .exit)) r ⌝ }
-{
-    let w = encoders::write(head, inputs, outputs, items, source, out);
+    let w = encoders::written_length(head, inputs, outputs, items, source);
     match w {
-        Written::Done(n) => compared(source, out, n),
+        Written::Done(n) => {
+            let walk = beside::transaction(head, inputs, outputs, items, source);
+            told(walk, n, source.len())
+        }
         Written::Refused(number, place) => Outcome::Unwritten(number, place),
     }
 }
 
-fn read(
-    source: &[u8],
-    inputs: &mut [u32],
-    outputs: &mut [u32],
-    items: &mut [u32],
-    out: &mut [u8],
-) -> Outcome
-    ensures { λ r. ⌜ Back (layoutSizes (tables (now (inputs .entry)) (now (outputs .entry)) (now (items .entry)))) (now (source .entry)) (now (out .entry)) (now (out .exit)) r ⌝ }
+fn read(source: &[u8], inputs: &mut [u32], outputs: &mut [u32], items: &mut [u32]) -> Outcome
+    ensures { λ r. ⌜ Back (layoutSizes (tables (now (inputs .entry)) (now (outputs .entry)) (now (items .entry)))) (now (source .entry)) (tables (now (inputs .exit)) (now (outputs .exit)) (now (items .exit))) r ⌝ }
 {
     let r = TransactionDecoder::read_strict(source, inputs, outputs, items);
     let answer = r.answer;
     match answer {
-        Answer::Finished(head) => written(head, source, inputs, outputs, items, out),
+        Answer::Finished(head) => written(head, source, inputs, outputs, items),
         Answer::More => Outcome::Refused(1, r.taken),
         Answer::Refused(number, place) => Outcome::Refused(number, place),
     }
@@ -84,7 +72,7 @@ fn read(
 fn refused(number: usize, place: usize) {
     command::refused(number, place);
     if number == 4 {
-        text(b": here is room for 1024 inputs, 1024 outputs, 8192 items");
+        text(b": here is room for 512 inputs, 512 outputs, 1024 items");
     }
     text(b"\n");
 }
@@ -109,26 +97,29 @@ fn print(outcome: Outcome) {
     }
 }
 
-// Tables of 1,024 input, 1,024 output and 8,192 item records.
-fn transaction(source: &[u8], out: &mut [u8]) {
-    let mut inputs = [0u32; 20480];
-    let mut outputs = [0u32; 14336];
-    let mut items = [0u32; 16384];
-    let outcome = read(source, &mut inputs, &mut outputs, &mut items, out);
+// Tables of 512 input, 512 output and 1,024 item records: fewer than `show` has, so that all of it fits into 4 MiB of stack.
+fn transaction(source: &[u8]) {
+    let mut inputs = [0u32; 10240];
+    let mut outputs = [0u32; 7168];
+    let mut items = [0u32; 2048];
+    let outcome = read(source, &mut inputs, &mut outputs, &mut items);
     print(outcome);
 }
 
-fn input(buffer: &mut [u8], out: &mut [u8]) {
-    let taken = command::take(b"usage: write_back [FILE]\n", buffer);
+fn input(buffer: &mut [u8]) {
+    let taken = command::take(
+        b"usage: write_back [FILE]\n",
+        b"Reads an Elements transaction, and holds what writing it again gives beside its bytes, one by one. Says 'same: N bytes', or the refusal's number\nand place. FILE holds the bytes themselves, not hex. Without FILE, or with -, standard input is read. Room: 512 inputs, 512 outputs, 1024 items.\n",
+        buffer,
+    );
     match taken {
-        Taken::Whole(n) => transaction(&buffer[..n], out),
-        Taken::Longer => transaction(buffer, out),
-        Taken::Failed => {}
+        Taken::Whole(n) => transaction(&buffer[..n]),
+        Taken::Longer => transaction(buffer),
+        Taken::Nothing => {}
     }
 }
 
 fn main() {
     let mut buffer = bytes();
-    let mut out = room();
-    input(&mut buffer, &mut out);
+    input(&mut buffer);
 }

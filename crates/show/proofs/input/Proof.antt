@@ -2,12 +2,14 @@ use mathlib.Core.Path.{sym}
 use lib.Seq.{length-take-le}
 use Rattle.command.proofs.Counting.{whole-within}
 use borrow.Author.Needs.{needs}
-use borrow.Author.Needs.{needs}
 use Rattle.show.proofs.input.Statement.{statement}
 use Rattle.show.proofs.input.Tie as tie
 
 slice-aggregate-take : tie.Need-slice-aggregate-take
 slice-aggregate-take c = search needs
+
+slice-aggregate-take-2 : tie.Need-slice-aggregate-take-2
+slice-aggregate-take-2 c = search needs
 
 take-requires : tie.Need-take-requires
 take-requires c κs = search needs
@@ -16,10 +18,10 @@ enum-known-taken : tie.Need-enum-known-taken
 enum-known-taken c = search needs
 
 slice-reshare-prefix-transaction : tie.Need-slice-reshare-prefix-transaction
-slice-reshare-prefix-transaction c = whole-within _ _ _ (c .before .before .before .before .before .take .last .1 .0) (c .before .before .before .before .before .take .ensures) (c .before .taken .given .1) (c .before .before .before .before .before .take .kept .1 .0)
+slice-reshare-prefix-transaction c = whole-within _ _ _ (c .before .before .before .before .before .take .last .1 .1 .0) (c .before .before .before .before .before .take .ensures) (c .before .taken .given .1) (c .before .before .before .before .before .take .kept .1 .1 .0)
 
 slice-aggregate-transaction : tie.Need-slice-aggregate-transaction
-slice-aggregate-transaction c = sym (length-take-le _ _ (whole-within _ _ _ (c .before .before .before .before .before .before .take .last .1 .0) (c .before .before .before .before .before .before .take .ensures) (c .before .before .taken .given .1) (c .before .before .before .before .before .before .take .kept .1 .0)))
+slice-aggregate-transaction c = sym (length-take-le _ _ (whole-within _ _ _ (c .before .before .before .before .before .before .take .last .1 .1 .0) (c .before .before .before .before .before .before .take .ensures) (c .before .before .taken .given .1) (c .before .before .before .before .before .before .take .kept .1 .1 .0)))
 
 transaction-requires : tie.Need-transaction-requires
 transaction-requires c κs = search needs
@@ -56,6 +58,7 @@ input-spec =
     tie.close
     (tie.spec
     slice-aggregate-take
+    slice-aggregate-take-2
     take-requires
     enum-known-taken
     slice-reshare-prefix-transaction

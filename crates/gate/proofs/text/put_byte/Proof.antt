@@ -1,0 +1,19 @@
+use Rattle.gate.proofs.Spelling.{put-one}
+use borrow.Author.Needs.{needs}
+use Rattle.gate.proofs.text.put_byte.Statement.{statement}
+use Rattle.gate.proofs.text.put_byte.Tie as tie
+
+slice-write-text : tie.Need-slice-write-text
+slice-write-text c = search needs
+
+add-result : tie.Need-add-result
+add-result c = search needs
+
+same-length : tie.Need-same-length
+same-length c = search needs
+
+returns : tie.Need-returns
+returns c = put-one _ _ _ (search needs)
+
+pub put-byte-spec : {M : Type 1} → statement M
+put-byte-spec = tie.close (tie.spec slice-write-text add-result same-length returns)
