@@ -1,27 +1,38 @@
 /*
  * Takzulit: reads and writes Elements transactions as document 01 lays them out. What is said of each function here in words, the function of
  * crates/takzulit/src/lib.rt promises, and is proved to keep, for whatever stands in the arrays, tables and bytes that are lent; that the two
- * say the same is read and run, not proved. No function allocates, keeps a pointer or stops the program, and each returns. The archive is for
- * x86-64 Linux.
+ * say the same is read and run, not proved. That the declarations and constants below are those of the exported functions is checked by
+ * .ci/exports. No function allocates, keeps a pointer or stops the program, and each returns. The archive is for x86-64 Linux;
+ * `.ci/arm-archive` makes one for aarch64 of the same proved module.
  *
  * What the caller owes, and no function can test:
  *   - each pointer points to as many numbers as its length says (or as its array has), is aligned for them, and is not null, even where
- *     the length is 0;
- *   - what is lent for writing overlaps nothing else that is lent to the same call;
+ *     the length is 0. A length is in elements: numbers of a table, not records and not bytes;
+ *   - what is lent for writing overlaps nothing else that is lent to the same call. Two tables in one array are fine where they lie side by side;
  *   - until the call returns nobody else reads or writes what is lent for writing, and nobody writes what is lent for reading.
+ * A call that breaks one of these may read and write anything.
  *
- * Tables. A length is in numbers, not records, and a table holds as many whole records as fit (the item table at most 4,294,967,295). A
- * position counts from the transaction's first byte. A field that is not there has 0. The numbers of a record, by their place in it:
- *   input, 20   0 txid's position, 1 vout, 2 flags (1 pegin, 2 issuance, 3 both), 3 script's position, 4 its length, 5 sequence,
- *               6 issuance's position, 7 amount's prefix, 8 high half, 9 low half, 10 keys' prefix, 11 high half, 12 low half,
- *               13 amount proof's position, 14 its length, 15 keys proof's position, 16 its length,
- *               17 the number of its first item, 18 how many script items, 19 and then how many pegin items
- *   output, 14  0 asset's prefix, 1 its position, 2 value's prefix, 3 its position, 4 high half, 5 low half, 6 nonce's prefix,
- *               7 its position, 8 script's position, 9 its length, 10 surjection proof's position, 11 its length,
- *               12 range proof's position, 13 its length
- *   item, 2     0 position, 1 length; in the order of the bytes
- * Prefix 0 is null. A value of prefix 1 is explicit, and its halves are 0 with any other; behind all other prefixes stand 32 bytes. An issuance
- * is blinding nonce (32), entropy (32), amount, keys; the last two with their prefixes have 1, 9 or 33 bytes each.
+ * What the caller owes if the answer is to speak of the bytes that were fed, and no function can test either:
+ *   - between the fresh start and the end a reading is handed its own state and its own tables, both as the last call left them. Other tables of the
+ *     same lengths are taken: the reading finishes, and what it had not yet entered it enters there, beside whatever stood there, be it the last
+ *     lorry's record. Two readings that go on at once want two sets of tables. Keep a state and its tables in one struct;
+ *   - a state is used once: one that was kept from before a piece, and handed in again behind it, reads on as if that piece had not come;
+ *   - states and tables are for the archive that made them: in another version their numbers may mean something else.
+ * Nothing is read or written then that is not lent.
+ *
+ * What the caller has to look at and to do:
+ *   - answer[TAKZULIT_NUMBER], after each call. Tables and head are a transaction only where it is TAKZULIT_FINISHED. While it is TAKZULIT_MORE
+ *     the tables hold what was read so far;
+ *   - when no more bytes come, takzulit_end: a reading that wants more is no transaction;
+ *   - takzulit_new, before each transaction: an ended reading repeats its answer. Fed the next lorry's bytes it takes none of them, and says
+ *     TAKZULIT_FINISHED again, with the last lorry's head and tables;
+ *   - what takzulit_push_bytes left of the piece, answer[TAKZULIT_TAKEN] less than its length: bytes follow the transaction. The strict form refuses
+ *     them, feeding leaves them to the caller.
+ *
+ * Tables. A table holds as many whole records as fit (the item table at most 4,294,967,295). A position counts from the transaction's first byte. A
+ * field that is not there has 0. The numbers of a record are named below. Prefix 0 is null. A value of prefix 1 is explicit, and its halves
+ * are 0 with any other; behind all other prefixes stand 32 bytes. An issuance is blinding nonce (32), entropy (32), amount, keys; the last two with
+ * their prefixes have 1, 9 or 33 bytes each.
  *
  * The answer, size_t[3]:
  *   [TAKZULIT_NUMBER]  TAKZULIT_FINISHED, TAKZULIT_MORE, or the number of a refusal, 1 to 14;
@@ -31,8 +42,8 @@
  *   [TAKZULIT_TAKEN]   reading: how many bytes this call took, the one that settles a refusal included. Writing (TAKZULIT_LENGTH): how many
  *                      bytes are written; 0 after a refusal.
  *
- * The head, uint32_t[7]: version, witness flag, inputs, outputs, items, locktime, length in bytes. A reader sets it to 0 unless the reading
- * is finished. A writer does not look at the length in it, nor at records behind its counts.
+ * The head, uint32_t[7], stands beside the tables. A reader sets it to 0 unless the reading is finished. A writer does not look at the length in it,
+ * nor at records behind its counts.
  */
 #ifndef TAKZULIT_H
 #define TAKZULIT_H
@@ -46,35 +57,92 @@ extern "C" {
 #endif
 
 #define TAKZULIT_LIMIT 4000000 /* a transaction's greatest length in bytes */
+
+/* How many numbers: of a record, of a reading state, of the head and of the answer. */
 #define TAKZULIT_INPUT_WIDTH 20
 #define TAKZULIT_OUTPUT_WIDTH 14
 #define TAKZULIT_ITEM_WIDTH 2
-
-#define TAKZULIT_STATE 20 /* numbers of a reading state */
+#define TAKZULIT_STATE 20
 #define TAKZULIT_HEAD 7
 #define TAKZULIT_ANSWER 3
 
 enum { TAKZULIT_NUMBER = 0, TAKZULIT_PLACE = 1, TAKZULIT_TAKEN = 2, TAKZULIT_LENGTH = 2 };
 
-/* The numbers, and the place that each has in a reading. */
+/* The numbers of the head. */
+enum {
+    TAKZULIT_HEAD_VERSION = 0,
+    TAKZULIT_HEAD_FLAG = 1, /* the witness flag */
+    TAKZULIT_HEAD_INPUTS = 2,
+    TAKZULIT_HEAD_OUTPUTS = 3,
+    TAKZULIT_HEAD_ITEMS = 4,
+    TAKZULIT_HEAD_LOCKTIME = 5,
+    TAKZULIT_HEAD_BYTES = 6 /* the length in bytes */
+};
+
+/* The numbers of an input record. That of input i is inputs[i * TAKZULIT_INPUT_WIDTH + TAKZULIT_INPUT_..]. */
+enum {
+    TAKZULIT_INPUT_TXID_POSITION = 0,
+    TAKZULIT_INPUT_VOUT = 1,
+    TAKZULIT_INPUT_FLAGS = 2, /* 1 pegin, 2 issuance, 3 both */
+    TAKZULIT_INPUT_SCRIPT_POSITION = 3,
+    TAKZULIT_INPUT_SCRIPT_LENGTH = 4,
+    TAKZULIT_INPUT_SEQUENCE = 5,
+    TAKZULIT_INPUT_ISSUANCE_POSITION = 6,
+    TAKZULIT_INPUT_AMOUNT_PREFIX = 7,
+    TAKZULIT_INPUT_AMOUNT_HIGH = 8,
+    TAKZULIT_INPUT_AMOUNT_LOW = 9,
+    TAKZULIT_INPUT_KEYS_PREFIX = 10,
+    TAKZULIT_INPUT_KEYS_HIGH = 11,
+    TAKZULIT_INPUT_KEYS_LOW = 12,
+    TAKZULIT_INPUT_AMOUNT_PROOF_POSITION = 13,
+    TAKZULIT_INPUT_AMOUNT_PROOF_LENGTH = 14,
+    TAKZULIT_INPUT_KEYS_PROOF_POSITION = 15,
+    TAKZULIT_INPUT_KEYS_PROOF_LENGTH = 16,
+    TAKZULIT_INPUT_FIRST_ITEM = 17,   /* the number of its first item in the item table, from 0 */
+    TAKZULIT_INPUT_SCRIPT_ITEMS = 18, /* how many from there on are its script stack's */
+    TAKZULIT_INPUT_PEGIN_ITEMS = 19   /* and then how many its pegin stack's */
+};
+
+/* The numbers of an output record. */
+enum {
+    TAKZULIT_OUTPUT_ASSET_PREFIX = 0,
+    TAKZULIT_OUTPUT_ASSET_POSITION = 1, /* a prefix's position is its own: the 32 bytes stand one behind it */
+    TAKZULIT_OUTPUT_VALUE_PREFIX = 2,
+    TAKZULIT_OUTPUT_VALUE_POSITION = 3,
+    TAKZULIT_OUTPUT_VALUE_HIGH = 4,
+    TAKZULIT_OUTPUT_VALUE_LOW = 5,
+    TAKZULIT_OUTPUT_NONCE_PREFIX = 6,
+    TAKZULIT_OUTPUT_NONCE_POSITION = 7,
+    TAKZULIT_OUTPUT_SCRIPT_POSITION = 8,
+    TAKZULIT_OUTPUT_SCRIPT_LENGTH = 9,
+    TAKZULIT_OUTPUT_SURJECTION_PROOF_POSITION = 10,
+    TAKZULIT_OUTPUT_SURJECTION_PROOF_LENGTH = 11,
+    TAKZULIT_OUTPUT_RANGE_PROOF_POSITION = 12,
+    TAKZULIT_OUTPUT_RANGE_PROOF_LENGTH = 13
+};
+
+/* The numbers of an item record. Items stand in the order of the bytes. */
+enum { TAKZULIT_ITEM_POSITION = 0, TAKZULIT_ITEM_LENGTH = 1 };
+
+/* The numbers of an answer, and the place that each refusal has in a reading. */
 enum {
     TAKZULIT_FINISHED = 0,
-    TAKZULIT_ENDS_EARLY = 1,        /* finish, and more is wanted; at the bytes taken */
-    TAKZULIT_LIMIT_PASSED = 2,      /* a field would end past 4,000,000; at its start, for a body or further bytes at the length's or count's.
-                                       Writing: the written length exceeds it */
-    TAKZULIT_NOT_SHORTEST = 3,      /* a count or length that is not in its shortest form; at its start */
-    TAKZULIT_NO_RECORD_LEFT = 4,    /* a count that exceeds the records left in its table; at its start */
-    TAKZULIT_BAD_PREFIX = 5,        /* a prefix that is not listed; there */
-    TAKZULIT_NULL_ISSUANCE = 6,     /* issuance flag, amount and keys null; at the issuance */
-    TAKZULIT_BAD_FLAG = 7,          /* witness flag above 1, told after the locktime; at 4 */
-    TAKZULIT_EMPTY_WITNESSES = 8,   /* flag 1, all witnesses empty; at 4 */
-    TAKZULIT_BYTES_FOLLOW = 9,      /* strict reading; at the first byte that follows */
-    TAKZULIT_TABLES_DIFFER = 10,    /* table lengths differ from the fresh start's; at 0. Writing: a count exceeds its table */
-    TAKZULIT_STATE_FORGED = 11,     /* the state fails the range test of docs/STATE.md; at 0. It comes before 10 */
-    TAKZULIT_OUTPOINT_UNCLEAR = 12, /* writing: an outpoint that can't be told apart: it would be read as another */
-    TAKZULIT_BAD_RECORD = 13,       /* writing: a record breaks the tables' rules, or a body lies outside the source */
-    TAKZULIT_OUTPUT_SHORT = 14,     /* writing: it has no room */
-    TAKZULIT_MORE = 255             /* more is wanted: neither finished nor refused */
+    TAKZULIT_REFUSED_ENDS_EARLY = 1,        /* finish, and more is wanted; at the bytes taken */
+    TAKZULIT_REFUSED_LIMIT_PASSED = 2,      /* a field would end past 4,000,000; at its start, for a body or further bytes at the length's or
+                                               count's. Writing: the written length exceeds it */
+    TAKZULIT_REFUSED_NOT_SHORTEST = 3,      /* a count or length that is not in its shortest form; at its start */
+    TAKZULIT_REFUSED_NO_RECORD_LEFT = 4,    /* a count that exceeds the records left in its table; at its start */
+    TAKZULIT_REFUSED_BAD_PREFIX = 5,        /* a prefix that is not listed; there */
+    TAKZULIT_REFUSED_NULL_ISSUANCE = 6,     /* issuance flag, amount and keys null; at the issuance */
+    TAKZULIT_REFUSED_BAD_FLAG = 7,          /* witness flag above 1, told after the locktime; at 4 */
+    TAKZULIT_REFUSED_EMPTY_WITNESSES = 8,   /* flag 1, all witnesses empty; at 4 */
+    TAKZULIT_REFUSED_BYTES_FOLLOW = 9,      /* strict reading; at the first byte that follows */
+    TAKZULIT_REFUSED_TABLES_DIFFER = 10,    /* table lengths differ from the fresh start's; at 0. Writing: a count exceeds its table */
+    TAKZULIT_REFUSED_STATE_FORGED = 11,     /* the state fails the range test of docs/STATE.md; at 0. It comes before 10 */
+    TAKZULIT_REFUSED_OUTPOINT_UNCLEAR = 12, /* writing: an outpoint that can't be told apart: it would be read as another */
+    TAKZULIT_REFUSED_BAD_RECORD = 13,       /* writing: a record breaks the tables' rules, or a body lies outside the source */
+    TAKZULIT_REFUSED_OUTPUT_SHORT = 14,     /* writing: it has no room */
+    TAKZULIT_MORE = 255                     /* more is wanted: neither finished nor refused */
 };
 
 /*
@@ -91,6 +159,7 @@ void takzulit_new(size_t state[TAKZULIT_STATE],
  * taken entire. Finished: at once with the last byte; what follows in the piece is left. Refused by 1 to 9: tables and head are 0. An ended
  * reading takes no more and repeats its answer. 10 and 11 leave state and tables as they were and take nothing. No answer depends on what
  * stands in the tables. A forged state that passes the range test is read on, within what is lent; it then tells of no bytes that came.
+ * Neither the range test nor the tables' lengths show that the tables are another reading's: see what the caller owes.
  */
 void takzulit_push_bytes(size_t state[TAKZULIT_STATE],
                          const uint8_t *piece, size_t piece_len,

@@ -1,7 +1,7 @@
 //! Reads a transaction from a file in pieces, as a radio link brings them, and prints answer, place, inputs, outputs and items. Bytes behind it are
 //! no fault here, as they would be to the strict form; those that came with its last piece are told.
 use std::{env, fs::File, io::Read, process::ExitCode};
-use takzulit::{DecoderStatus, Refusal, Transaction, TransactionDecoder};
+use takzulit::{DecoderStatus, Refusal, Transaction, TransactionDecoder, INPUT_WIDTH, ITEM_WIDTH, OUTPUT_WIDTH};
 
 fn main() -> ExitCode {
     let mut words = env::args_os().skip(1);
@@ -16,18 +16,20 @@ fn main() -> ExitCode {
             return ExitCode::from(2);
         }
     };
-    let (mut inputs, mut outputs, mut items) = ([0; 20 * 64], [0; 14 * 64], [0; 2 * 256]);
+    let (mut inputs, mut outputs, mut items) = ([0; 64 * INPUT_WIDTH], [0; 64 * OUTPUT_WIDTH], [0; 256 * ITEM_WIDTH]);
     match read(file, TransactionDecoder::new(&mut inputs, &mut outputs, &mut items)) {
         Err(error) => {
             eprintln!("it could not be read: {error}");
             ExitCode::from(2)
         }
         Ok(Err(refusal)) => {
-            println!("{} {} 0 0 0", refusal.number, refusal.place);
+            println!("{} {} 0 0 0", refusal.number(), refusal.place());
+            eprintln!("{refusal}");
             ExitCode::FAILURE
         }
-        Ok(Ok((t, left))) => {
-            println!("0 0 {} {} {}", t.head.inputs, t.head.outputs, t.head.items);
+        Ok(Ok((transaction, left))) => {
+            let head = transaction.head();
+            println!("0 0 {} {} {}", head.inputs, head.outputs, head.items);
             if left > 0 {
                 println!("bytes of the last piece that follow it: {left}");
             }
