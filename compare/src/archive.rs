@@ -3,8 +3,8 @@
 //! Every array that a call fills stands between marks, and starts out full of marks: so a number that wasn't set,
 //! or one set behind the array's end, shows.
 
-use crate::drive::{Feeds, Reads, Writes};
 use crate::fence::fenced;
+use crate::forms::{Feeds, Reads, Writes};
 use crate::paper::*;
 
 /// The opaque numbers of a reading's state.

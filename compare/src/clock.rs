@@ -1,10 +1,14 @@
 //! How long each form takes for the same readings, so that "fast" is a figure.
 
-use crate::drive::{Feeds, Reads, Resume, Tables, Whole};
+#[cfg(feature = "archive")]
+use crate::archive::Archive;
+use crate::forms::{Feeds, Reads, Resume, Whole};
 use crate::generate::{Made, Random};
+use crate::log::Ending;
 use crate::paper::*;
 use crate::plain;
 use crate::slips::Slip;
+use crate::tables::Tables;
 use std::time::Instant;
 
 /// A sound transaction and tables that just hold it.
@@ -30,7 +34,6 @@ pub fn run(seed: u64) {
         report("resume, pieces of 64", timed(&loads, rounds, |load, tables| fed::<Resume>(load, tables, 64)));
         #[cfg(feature = "archive")]
         {
-            use crate::archive::Archive;
             report("archive, at once", timed(&loads, rounds, at_once::<Archive>));
             report(
                 "archive, one piece",
@@ -49,7 +52,7 @@ fn loads(seed: u64, count: usize, fits: impl Fn(usize) -> bool) -> Vec<Load> {
     while loads.len() < count {
         made.again(&mut random);
         let sizes = [0, 1, 2].map(|table| made.counts[table] * WIDTHS[table]);
-        let sound = matches!(plain::read(&made.bytes, sizes, Slip::None).ending, plain::Ending::Finished(_));
+        let sound = matches!(plain::read(&made.bytes, sizes, Slip::None).ending, Ending::Finished(_));
         if sound && fits(made.bytes.len()) {
             loads.push(Load { bytes: made.bytes.clone(), sizes });
         }

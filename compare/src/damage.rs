@@ -1,8 +1,8 @@
 //! Turns sound transactions and tables into cases: sound ones, and ones with each fault at each place.
 
 use crate::generate::{put_compact_of_width, Kind, Made, Random, Span};
+use crate::log::Field;
 use crate::paper::*;
-use crate::plain::Field;
 
 // ---------------------------------------------------------------------------------------------------------
 // Reading.

@@ -1,171 +1,21 @@
 //! The driver: makes cases, hands them to every form, and compares each with the plain one.
 
+#[cfg(feature = "archive")]
+use crate::archive::Archive;
 use crate::damage::{self, Case, Sea, Writing};
+use crate::forms::{Against, Feeds, Quick, Reads, Resume, Whole, Writes, ARCHIVE};
 use crate::generate::{Made, Random};
+use crate::log::{Ending, Reading};
 use crate::paper::*;
-use crate::plain::{self, Ending, Feeding, Reading};
+use crate::plain::{self, Feeding};
 use crate::slips::Slip;
+use crate::tables::{Tables, GUARD};
 use crate::tally::Tally;
-use crate::{resume, whole, writer};
+use crate::whole;
 use std::fmt::Write as _;
 
-// ---------------------------------------------------------------------------------------------------------
-// What can be judged.
-
-/// A reader that is fed in pieces.
-pub trait Feeds {
-    const NAME: &'static str;
-    type State: Copy + PartialEq;
-    fn fresh(lent: &mut Lent) -> Self::State;
-    fn push(state: Self::State, piece: &[u8], lent: &mut Lent) -> (Self::State, Outcome);
-    fn end(state: Self::State, lent: &mut Lent) -> (Self::State, Outcome);
-}
-
-/// A reader of whole bytes.
-pub trait Reads {
-    const NAME: &'static str;
-    fn read(bytes: &[u8], lent: &mut Lent, strict: bool) -> Outcome;
-}
-
-pub trait Writes {
-    const NAME: &'static str;
-    fn written_length(order: &Order) -> Written;
-    fn write(order: &Order, output: &mut [u8]) -> Written;
-    fn is_fee(output: &[u32; OUTPUT]) -> bool;
-}
-
-pub struct Whole;
-
-impl Reads for Whole {
-    const NAME: &'static str = "whole";
-    fn read(bytes: &[u8], lent: &mut Lent, strict: bool) -> Outcome {
-        whole::read(bytes, lent, strict)
-    }
-}
-
-pub struct Resume;
-
-impl Feeds for Resume {
-    const NAME: &'static str = "resume";
-    type State = resume::Reading;
-    fn fresh(lent: &mut Lent) -> resume::Reading {
-        resume::Reading::fresh(lent)
-    }
-    fn push(state: resume::Reading, piece: &[u8], lent: &mut Lent) -> (resume::Reading, Outcome) {
-        state.push_bytes(piece, lent)
-    }
-    fn end(state: resume::Reading, lent: &mut Lent) -> (resume::Reading, Outcome) {
-        state.end(lent)
-    }
-}
-
-pub struct Quick;
-
-impl Writes for Quick {
-    const NAME: &'static str = "writer";
-    fn written_length(order: &Order) -> Written {
-        writer::written_length(order)
-    }
-    fn write(order: &Order, output: &mut [u8]) -> Written {
-        writer::write(order, output)
-    }
-    fn is_fee(output: &[u32; OUTPUT]) -> bool {
-        writer::is_fee(output)
-    }
-}
-
-// ---------------------------------------------------------------------------------------------------------
-// Tables with guards.
-
-/// Numbers before and behind each table that nobody may touch.
-const GUARD: usize = 32;
-const MARK: u32 = 0xa5a5_5a5a;
 /// What the output holds before a write.
 const BLANK: u8 = 0xc3;
-
-#[derive(Default)]
-pub struct Tables {
-    numbers: [Vec<u32>; 3],
-    sizes: [usize; 3],
-}
-
-impl Tables {
-    /// Tables of these sizes, full of marks: what a former transaction left.
-    pub fn prepare(&mut self, sizes: [usize; 3]) {
-        self.sizes = sizes;
-        for (numbers, size) in self.numbers.iter_mut().zip(sizes) {
-            numbers.clear();
-            numbers.resize(GUARD + size + GUARD, MARK);
-        }
-    }
-
-    pub fn lent(&mut self) -> Lent<'_> {
-        self.lent_of(self.sizes)
-    }
-
-    /// The same tables in other sizes, larger by at most the guard.
-    pub fn lent_of(&mut self, sizes: [usize; 3]) -> Lent<'_> {
-        let [inputs, outputs, items] = &mut self.numbers;
-        Lent {
-            inputs: &mut inputs[GUARD..GUARD + sizes[0]],
-            outputs: &mut outputs[GUARD..GUARD + sizes[1]],
-            items: &mut items[GUARD..GUARD + sizes[2]],
-        }
-    }
-
-    pub fn table(&self, table: usize) -> &[u32] {
-        &self.numbers[table][GUARD..GUARD + self.sizes[table]]
-    }
-
-    pub fn copy(&mut self, from: &Tables) {
-        self.numbers.clone_from(&from.numbers);
-        self.sizes = from.sizes;
-    }
-
-    pub fn equal(&self, other: &Tables) -> bool {
-        self.numbers == other.numbers
-    }
-
-    pub fn is_zero(&self) -> bool {
-        (0..3).all(|table| self.table(table).iter().all(|&number| number == 0))
-    }
-
-    pub fn guards_stand(&self) -> bool {
-        self.numbers.iter().zip(self.sizes).all(|(numbers, size)| {
-            numbers[..GUARD].iter().chain(&numbers[GUARD + size..]).all(|&number| number == MARK)
-        })
-    }
-
-    /// Numbers altered by the caller: the same ones for the same random state.
-    fn scribble(&mut self, random: &mut Random) {
-        for table in 0..3 {
-            let size = self.sizes[table];
-            for _ in 0..2 {
-                let (at, number) = (random.below(size.max(1)), random.draw() as u32);
-                if size > 0 {
-                    self.numbers[table][GUARD + at] = number;
-                }
-            }
-        }
-    }
-
-    /// The first number in which the two differ.
-    fn difference(&self, other: &Tables) -> Option<String> {
-        for (table, name) in ["input", "output", "item"].iter().enumerate() {
-            if self.numbers[table] == other.numbers[table] {
-                continue;
-            }
-            let pairs = self.numbers[table].iter().zip(&other.numbers[table]);
-            let at = pairs.clone().position(|(one, two)| one != two).unwrap_or(0);
-            let place = at as isize - GUARD as isize;
-            let record = place.div_euclid(WIDTHS[table] as isize);
-            let number = place.rem_euclid(WIDTHS[table] as isize);
-            let (one, two) = (self.numbers[table][at], other.numbers[table][at]);
-            return Some(format!("{name} table, record {record}, number {number}: paper {one}, found {two}"));
-        }
-        None
-    }
-}
 
 // ---------------------------------------------------------------------------------------------------------
 // Differences.
@@ -183,14 +33,28 @@ fn differ(subject: &'static str, call: String, what: String) -> Check {
     Err(Difference { subject, call, what })
 }
 
-/// The memory that comparisons use again and again.
-#[derive(Default)]
+/// Who is compared, the memory that comparisons use again and again, and what they saw.
 pub struct Bench {
+    against: Against,
     paper: Tables,
     found: Tables,
     paper_output: Vec<u8>,
     found_output: Vec<u8>,
     pub tally: Tally,
+}
+
+impl Bench {
+    pub fn new(against: Against) -> Bench {
+        assert!(ARCHIVE || !against.archive(), "the library isn't compiled in");
+        Bench {
+            against,
+            paper: Tables::default(),
+            found: Tables::default(),
+            paper_output: Vec::new(),
+            found_output: Vec::new(),
+            tally: Tally::default(),
+        }
+    }
 }
 
 // ---------------------------------------------------------------------------------------------------------
@@ -202,11 +66,12 @@ pub fn check_reading(case: &Case, reading: &mut Reading, bench: &mut Bench, slip
     bench.tally.inputs += 1;
     bench.tally.bytes += case.bytes.len() as u64;
     bench.tally.reading(reading);
-    check_at_once::<Whole>(&case.bytes, case.sizes, reading, bench, slip)?;
-    check_feeding::<Resume>(case, reading, bench, slip)?;
+    if bench.against.own() {
+        check_at_once::<Whole>(&case.bytes, case.sizes, reading, bench, slip)?;
+        check_feeding::<Resume>(case, reading, bench, slip)?;
+    }
     #[cfg(feature = "archive")]
-    {
-        use crate::archive::Archive;
+    if bench.against.archive() {
         check_at_once::<Archive>(&case.bytes, case.sizes, reading, bench, slip)?;
         check_feeding::<Archive>(case, reading, bench, slip)?;
     }
@@ -247,9 +112,13 @@ fn check_every_truncation(case: &Case, whole: &Reading, bench: &mut Bench, slip:
         if slip == Slip::None && !(same_end && log.eq(part.entries.iter())) {
             return differ("plain", format!("first {length} bytes"), "the part isn't read like the whole".into());
         }
-        check_at_once::<Whole>(bytes, case.sizes, &part, bench, slip)?;
+        if bench.against.own() {
+            check_at_once::<Whole>(bytes, case.sizes, &part, bench, slip)?;
+        }
         #[cfg(feature = "archive")]
-        check_at_once::<crate::archive::Archive>(bytes, case.sizes, &part, bench, slip)?;
+        if bench.against.archive() {
+            check_at_once::<Archive>(bytes, case.sizes, &part, bench, slip)?;
+        }
     }
     Ok(())
 }
@@ -395,14 +264,22 @@ fn shown(outcome: Outcome) -> String {
 /// Every comparison of one order to write.
 pub fn check_writing(case: &Writing, bench: &mut Bench, slip: Slip) -> Check {
     bench.tally.writings += 1;
-    check_written::<Quick>(case, bench, slip, true)?;
+    if bench.against.own() {
+        check_writer::<Quick>(case, bench, slip, true)?;
+    }
     #[cfg(feature = "archive")]
-    check_written::<crate::archive::Archive>(case, bench, slip, false)?;
+    if bench.against.archive() {
+        let first = !bench.against.own();
+        check_writer::<Archive>(case, bench, slip, first)?;
+    }
+    Ok(())
+}
+
+/// One writer's answers to the order; the `first` writer's are counted.
+fn check_writer<W: Writes>(case: &Writing, bench: &mut Bench, slip: Slip, first: bool) -> Check {
+    check_written::<W>(case, bench, slip, first)?;
     for record in case.tables[OUTPUTS].chunks_exact(OUTPUT).take(3) {
-        let record: &[u32; OUTPUT] = record.try_into().expect("a whole record");
-        check_fee::<Quick>(record, slip)?;
-        #[cfg(feature = "archive")]
-        check_fee::<crate::archive::Archive>(record, slip)?;
+        check_fee::<W>(record.try_into().expect("a whole record"), slip)?;
     }
     Ok(())
 }
@@ -548,7 +425,7 @@ pub enum Found {
 }
 
 impl Run {
-    pub fn new(seed: u64, slip: Slip) -> Run {
+    pub fn new(seed: u64, slip: Slip, against: Against) -> Run {
         Run {
             seed,
             slip,
@@ -557,7 +434,7 @@ impl Run {
             writing: Writing::default(),
             sea: Sea::default(),
             reading: Reading::empty(),
-            bench: Bench::default(),
+            bench: Bench::new(against),
         }
     }
 
@@ -607,9 +484,14 @@ impl Run {
     }
 
     fn round_trip(&mut self, head: &Head, tables: &Tables) -> Check {
-        check_round_trip::<Quick>(head, tables, &self.case.bytes, &mut self.bench.found_output)?;
+        let Bench { against, found_output, .. } = &mut self.bench;
+        if against.own() {
+            check_round_trip::<Quick>(head, tables, &self.case.bytes, found_output)?;
+        }
         #[cfg(feature = "archive")]
-        check_round_trip::<crate::archive::Archive>(head, tables, &self.case.bytes, &mut self.bench.found_output)?;
+        if against.archive() {
+            check_round_trip::<Archive>(head, tables, &self.case.bytes, found_output)?;
+        }
         Ok(())
     }
 }

@@ -6,48 +6,55 @@
 
 use crate::archive::{Archive, State, STATE};
 use crate::damage::{self, Case, Sea};
-use crate::drive::{hex, Feeds, Tables};
+use crate::drive::hex;
+use crate::forms::Feeds;
 use crate::generate::{Made, Random};
 use crate::paper::*;
+use crate::tables::Tables;
+use crate::terms::Terms;
 use crate::watch;
-use std::time::{Duration, Instant};
+use std::collections::BTreeMap;
 
 /// What the library did wrong, in words.
 type Wrong = Option<&'static str>;
 
-#[derive(Default)]
-struct Counts {
-    forged: u64,
-    refused: u64,
-    other_sizes: u64,
-    more: u64,
-    finished: u64,
-    refused_reading: u64,
-}
+/// The answers that feeding and finishing can give; 9 is the strict form's.
+const ANSWERS: [usize; 12] = [FINISHED, 1, 2, 3, 4, 5, 6, 7, 8, 10, 11, MORE];
+
+/// How often each answer was seen.
+type Counts = BTreeMap<usize, u64>;
 
 /// Forges until the count or the time is used up, or the library does wrong.
-pub fn run(seed: u64, from: u64, count: u64, time: Option<Duration>) -> bool {
-    println!("seed {seed}, from case {from}");
-    watch::start(seed);
-    let until = time.map(|time| Instant::now() + time);
+pub fn run(terms: &Terms) -> bool {
+    println!("seed {}, from case {}; forged states handed to: {}", terms.seed, terms.from, <Archive as Feeds>::NAME);
+    watch::start(terms.seed);
     let mut counts = Counts::default();
     let mut workshop = Workshop::default();
-    for number in from..from.saturating_add(count) {
+    let mut cases = 0;
+    for number in terms.cases() {
         watch::case(number);
-        if let Some(wrong) = workshop.step(seed, number, &mut counts) {
-            println!("case {number} of seed {seed}: WRONG: {wrong}");
+        if let Some(wrong) = workshop.step(terms.seed, number, &mut counts) {
+            println!("case {number} of seed {}: WRONG: {wrong}", terms.seed);
             workshop.print();
             return false;
         }
-        if number % 256 == 0 && until.map_or(false, |until| Instant::now() > until) {
+        cases += 1;
+        if number % 256 == 0 && terms.time_is_up() {
             break;
         }
     }
-    println!(
-        "forged states {}: 11 {}, 10 {}, more {}, finished {}, refusals 1 to 9 {}",
-        counts.forged, counts.refused, counts.other_sizes, counts.more, counts.finished, counts.refused_reading
-    );
-    true
+    let seen: Vec<String> = counts.iter().map(|(answer, count)| format!("{}: {count}", named(*answer))).collect();
+    println!("{} forged states; answers: {}", counts.values().sum::<u64>(), seen.join(", "));
+    let unseen = ANSWERS.iter().filter(|answer| !counts.contains_key(answer)).map(|&answer| named(answer));
+    terms.passed(cases, &unseen.collect::<Vec<String>>())
+}
+
+fn named(answer: usize) -> String {
+    match answer {
+        FINISHED => "finished".into(),
+        MORE => "more wanted".into(),
+        _ => answer.to_string(),
+    }
 }
 
 #[derive(Default)]
@@ -76,7 +83,6 @@ impl Workshop {
         damage::retire(&mut self.case, &mut self.sea);
         for _ in 0..8 {
             self.state = forged(true_state, self.case.sizes, &mut random);
-            counts.forged += 1;
             let wrong = self.hand_in(random.once_in(4), counts);
             if wrong.is_some() {
                 return wrong;
@@ -97,14 +103,10 @@ impl Workshop {
             false => Archive::push(state, piece, &mut tables.lent()),
         };
         let (returned, outcome) = call(self.state, &self.piece, &mut self.tables);
-        match outcome.answer {
-            FINISHED => counts.finished += 1,
-            1..=9 => counts.refused_reading += 1,
-            10 => counts.other_sizes += 1,
-            11 => counts.refused += 1,
-            MORE => counts.more += 1,
-            _ => return Some("no such answer"),
+        if !matches!(outcome.answer, FINISHED | 1..=11 | MORE) {
+            return Some("no such answer");
         }
+        *counts.entry(outcome.answer).or_insert(0) += 1;
         let given = if ending { 0 } else { self.piece.len() };
         if outcome.taken > given {
             return Some("more taken than given");

@@ -1,7 +1,7 @@
 //! Seeded random transactions with every feature of the layout, and the map of their fields.
 
+use crate::log::Field;
 use crate::paper::*;
-use crate::plain::Field;
 
 /// A small random generator (splitmix64): the same seed gives the same inputs everywhere.
 #[derive(Clone)]

@@ -1,11 +1,12 @@
 //! An independent judge of the transaction codec, written from document 01, the demands and the list of readings.
 //!
 //! - [`paper`]: the constants of document 01 and the shapes every form shares.
-//! - [`plain`]: the clear reader and writer. They are the judge.
-//! - [`whole`], [`resume`], [`writer`]: fast forms of the same paper, judged against it.
+//! - [`plain`]: the clear reader and writer. They are the judge. [`log`]: what the reader yields.
+//! - [`whole`], [`resume`], [`writer`]: fast forms of the same paper, judged against it. [`forms`]: what can be judged.
 //! - `archive`, `forge`: the library under test, and forged states handed to it (feature `archive`).
-//! - [`generate`], [`damage`]: where the inputs come from.
-//! - [`drive`]: the comparisons. [`shrink`]: makes a difference small. [`tally`]: what was seen.
+//! - [`generate`], [`damage`]: where the inputs come from. [`tables`]: tables with guards about them.
+//! - [`drive`]: the comparisons. [`shrink`]: makes a difference small. [`tally`]: what was seen. [`terms`]: how long a
+//!   run goes on, and when it is a pass.
 //! - [`clock`]: how long each form takes. [`realistic`], `speed`: how fast the library is beside them, on transactions such
 //!   as a chain carries (`speed`: feature `archive`).
 //! - [`program`]: judges the program that reads standard input.
@@ -21,7 +22,9 @@ pub mod drive;
 pub mod fence;
 #[cfg(feature = "archive")]
 pub mod forge;
+pub mod forms;
 pub mod generate;
+pub mod log;
 pub mod paper;
 pub mod plain;
 pub mod program;
@@ -31,7 +34,9 @@ pub mod shrink;
 pub mod slips;
 #[cfg(feature = "archive")]
 pub mod speed;
+pub mod tables;
 pub mod tally;
+pub mod terms;
 #[cfg(feature = "archive")]
 pub mod watch;
 pub mod whole;

@@ -6,84 +6,12 @@
 //!
 //! The word `slip` marks the hooks of [`crate::slips`]; with `Slip::None` each of them does nothing.
 
+use crate::log::{Ending, Entry, Field, Part, Reading, Refusal};
 use crate::paper::*;
 use crate::slips::Slip;
 
 mod writing;
-pub use writing::{is_fee, items_of, value_width, write, written_length, CAUSES};
-
-// ---------------------------------------------------------------------------------------------------------
-// Names of the fields, so that it can be counted where each refusal was seen.
-
-macro_rules! fields {
-    ($($name:ident),* $(,)?) => {
-        #[derive(Clone, Copy, PartialEq, Eq, Debug)]
-        pub enum Field { $($name),* }
-        pub const FIELDS: &[Field] = &[$(Field::$name),*];
-    };
-}
-
-fields! {
-    Version, Flag, InputCount, Txid, Vout, Script, Sequence, BlindingNonce, Entropy,
-    AmountPrefix, AmountExplicit, AmountCommitment, KeysPrefix, KeysExplicit, KeysCommitment,
-    OutputCount, AssetPrefix, AssetPart, ValuePrefix, ValueExplicit, ValueCommitment, NoncePrefix, NoncePart,
-    OutputScript, Locktime, AmountProof, KeysProof, ScriptCount, ScriptItem, PeginCount, PeginItem,
-    SurjectionProof, RangeProof, Whole,
-}
-
-/// Which part of a field: a fixed one is all `Fixed`; counts and lengths have two parts, and then the body.
-#[derive(Clone, Copy, PartialEq, Eq, Debug)]
-pub enum Part {
-    Fixed,
-    First,
-    Further,
-    Body,
-}
-
-pub const PARTS: [Part; 4] = [Part::Fixed, Part::First, Part::Further, Part::Body];
-
-// ---------------------------------------------------------------------------------------------------------
-// The reading.
-
-/// A number that enters a table when `at` bytes have been taken.
-#[derive(Clone, Copy, PartialEq, Eq, Debug)]
-pub struct Entry {
-    pub at: usize,
-    pub table: usize,
-    pub index: usize,
-    pub value: u32,
-}
-
-#[derive(Clone, Copy, PartialEq, Eq, Debug)]
-pub struct Refusal {
-    pub number: usize,
-    pub place: usize,
-    pub field: Field,
-    pub part: Part,
-}
-
-#[derive(Clone, Copy, PartialEq, Eq, Debug)]
-pub enum Ending {
-    /// The bytes end within this field.
-    More(Field, Part),
-    Refused(Refusal),
-    Finished(Head),
-}
-
-/// What the paper says of a list of bytes and of tables with so much room.
-#[derive(Clone, PartialEq, Eq, Debug)]
-pub struct Reading {
-    pub entries: Vec<Entry>,
-    pub ending: Ending,
-    /// The bytes taken when the reading ended; all of them if it wants more.
-    pub taken: usize,
-}
-
-impl Reading {
-    pub fn empty() -> Reading {
-        Reading { entries: Vec::new(), ending: Ending::More(Field::Version, Part::Fixed), taken: 0 }
-    }
-}
+pub use writing::{is_fee, value_width, write, written_length, CAUSES};
 
 /// Reads a list of bytes; `sizes` are the tables' sizes in numbers.
 pub fn read(bytes: &[u8], sizes: [usize; 3], slip: Slip) -> Reading {
@@ -352,7 +280,7 @@ impl<'a> Reader<'a> {
         match prefix {
             0 => {}
             1 => {
-                let amount = self.slip.amount(self.fixed(8, explicit)?);
+                let amount = self.slip.amount(big_endian(self.fixed(8, explicit)?));
                 self.enter(table, record, number, (amount >> 32) as u32);
                 self.enter(table, record, number + 1, amount as u32);
             }
@@ -461,7 +389,7 @@ fn little_endian(bytes: &[u8]) -> u64 {
     bytes.iter().rev().fold(0, |number, &byte| number << 8 | byte as u64)
 }
 
-pub fn big_endian(bytes: &[u8]) -> u64 {
+fn big_endian(bytes: &[u8]) -> u64 {
     bytes.iter().fold(0, |number, &byte| number << 8 | byte as u64)
 }
 

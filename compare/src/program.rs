@@ -1,14 +1,18 @@
 //! The program of the port order: standard input through one buffer, and one line of the strict form's answer.
 
+#[cfg(feature = "archive")]
+use crate::archive::Archive;
 use crate::damage::{self, Case, Sea};
-use crate::drive::{hex, Tables};
+use crate::drive::hex;
+use crate::forms::{Against, Reads, Whole};
 use crate::generate::{Made, Random};
 use crate::paper::*;
 use crate::plain;
 use crate::slips::Slip;
+use crate::tables::Tables;
+use crate::terms::Terms;
 use std::io::{Read, Write};
 use std::process::{Command, Stdio};
-use std::time::{Duration, Instant};
 
 /// Tables of 64 input, 64 output and 256 item records.
 const SIZES: [usize; 3] = [64 * INPUT, 64 * OUTPUT, 256 * ITEM];
@@ -16,15 +20,14 @@ const SIZES: [usize; 3] = [64 * INPUT, 64 * OUTPUT, 256 * ITEM];
 const BUFFER: usize = 65_536;
 
 /// Runs the program on case after case until one differs.
-pub fn run(path: &str, seed: u64, from: u64, count: u64, time: Option<Duration>) -> bool {
-    println!("program {path}, seed {seed}, from case {from}");
-    let until = time.map(|time| Instant::now() + time);
+pub fn run(path: &str, terms: &Terms, against: Against) -> bool {
+    println!("seed {}, from case {}; compared with plain: {path}, {}", terms.seed, terms.from, names(against));
     let mut made = Made::default();
     let mut case = Case::default();
     let mut sea = Sea::default();
-    let mut seen = 0;
-    for number in from..from.saturating_add(count) {
-        let mut random = Random::seeded(seed ^ number.wrapping_mul(0xd134_2543_de82_ef95));
+    let mut seen = [0; 10];
+    for number in terms.cases() {
+        let mut random = Random::seeded(terms.seed ^ number.wrapping_mul(0xd134_2543_de82_ef95));
         made.again(&mut random);
         damage::reading_case(&mut case, &made, &mut sea, &mut random);
         if random.once_in(8) {
@@ -38,31 +41,62 @@ pub fn run(path: &str, seed: u64, from: u64, count: u64, time: Option<Duration>)
                 return false;
             }
         };
-        seen += 1;
-        if paper != found {
-            println!("case {number} of seed {seed}: the program differs");
-            println!("  paper: {paper:?}");
+        let others = lines(&case.bytes, against);
+        if let Some((form, found)) =
+            others.iter().chain([&("the program", found)]).find(|(_, line)| *line != line_of(paper))
+        {
+            println!("case {number} of seed {}: {form} differs", terms.seed);
+            println!("  paper: {:?}", line_of(paper));
             println!("  found: {found:?}");
             println!("  bytes ({}): {}", case.bytes.len(), hex(&case.bytes));
             return false;
         }
+        seen[paper.answer] += 1;
         damage::retire(&mut case, &mut sea);
-        if until.map_or(false, |until| Instant::now() > until) {
+        if terms.time_is_up() {
             break;
         }
     }
-    println!("{seen} inputs; no difference");
-    true
+    println!("answers 0 to 9: {seen:?}");
+    let unseen = (0..seen.len()).filter(|&answer| seen[answer] == 0).map(|answer| answer.to_string());
+    terms.passed(seen.iter().sum(), &unseen.collect::<Vec<String>>())
 }
 
-/// The line that the paper wants for these bytes.
-pub fn expected(bytes: &[u8]) -> String {
+/// What the paper wants for these bytes, read strictly.
+fn expected(bytes: &[u8]) -> Outcome {
     let mut tables = Tables::default();
     tables.prepare(SIZES);
     let reading = plain::read(bytes, SIZES, Slip::None);
-    let outcome = plain::read_at_once(&reading, bytes.len(), &mut tables.lent(), true, Slip::None);
+    plain::read_at_once(&reading, bytes.len(), &mut tables.lent(), true, Slip::None)
+}
+
+fn line_of(outcome: Outcome) -> String {
     let [_, _, inputs, outputs, items, ..] = outcome.head;
     format!("{} {} {inputs} {outputs} {items}\n", outcome.answer, outcome.place)
+}
+
+/// The forms that read whole bytes.
+fn names(against: Against) -> String {
+    lines(&[], against).iter().map(|line| line.0).collect::<Vec<&str>>().join(", ")
+}
+
+/// Each form's line for these bytes.
+fn lines(bytes: &[u8], against: Against) -> Vec<(&'static str, String)> {
+    let mut lines = Vec::new();
+    if against.own() {
+        lines.push((Whole::NAME, line_by::<Whole>(bytes)));
+    }
+    #[cfg(feature = "archive")]
+    if against.archive() {
+        lines.push((<Archive as Reads>::NAME, line_by::<Archive>(bytes)));
+    }
+    lines
+}
+
+fn line_by<R: Reads>(bytes: &[u8]) -> String {
+    let mut tables = Tables::default();
+    tables.prepare(SIZES);
+    line_of(R::read(bytes, &mut tables.lent(), true))
 }
 
 /// One input whose script makes the whole as long as the buffer, or nearly, or with bytes behind.

@@ -2,8 +2,9 @@
 
 use crate::damage::{Case, Writing};
 use crate::drive::{check_reading, check_writing, hex, Bench, Difference};
+use crate::forms::Against;
+use crate::log::Reading;
 use crate::paper::*;
-use crate::plain::Reading;
 use crate::slips::Slip;
 
 /// At most so many trials: a long case costs much for each.
@@ -37,8 +38,8 @@ impl<C: Clone, F: FnMut(&C) -> Option<Difference>> Shrinker<C, F> {
     }
 }
 
-pub fn shrink_reading(case: Case, difference: Difference, slip: Slip) -> (Case, Difference) {
-    let mut bench = Bench::default();
+pub fn shrink_reading(case: Case, difference: Difference, slip: Slip, against: Against) -> (Case, Difference) {
+    let mut bench = Bench::new(against);
     let mut reading = Reading::empty();
     let trials = if case.bytes.len() > 100_000 { TRIALS_OF_LONG } else { TRIALS };
     let fails = move |case: &Case| check_reading(case, &mut reading, &mut bench, slip).err();
@@ -141,8 +142,8 @@ fn zero_bytes<F: FnMut(&Case) -> Option<Difference>>(shrinker: &mut ReadingShrin
     smaller
 }
 
-pub fn shrink_writing(case: Writing, difference: Difference, slip: Slip) -> (Writing, Difference) {
-    let mut bench = Bench::default();
+pub fn shrink_writing(case: Writing, difference: Difference, slip: Slip, against: Against) -> (Writing, Difference) {
+    let mut bench = Bench::new(against);
     let trials = if case.source.len() > 100_000 { TRIALS_OF_LONG } else { TRIALS };
     let fails = move |case: &Writing| check_writing(case, &mut bench, slip).err();
     let mut shrinker = Shrinker { best: case, difference, trials, fails };

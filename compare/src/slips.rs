@@ -6,8 +6,8 @@
 //!
 //! `plain.rs` asks `is` or `pick` in one line; the longer hooks stand below.
 
+use crate::log::{Ending, Field, Part, Reading};
 use crate::paper::*;
-use crate::plain::{big_endian, items_of, Ending, Field, Part, Reading};
 
 macro_rules! slips {
     ($($name:ident: $words:expr;)*) => {
@@ -210,8 +210,7 @@ impl Slip {
         }
     }
 
-    pub fn amount(self, bytes: &[u8]) -> u64 {
-        let amount = big_endian(bytes);
+    pub fn amount(self, amount: u64) -> u64 {
         self.pick(Slip::AmountReadLittle, amount.swap_bytes(), amount)
     }
 
@@ -305,16 +304,16 @@ impl Slip {
         self.pick(Slip::CountsAgainstAnyRecord, (size + width - 1) / width, size / width)
     }
 
-    pub fn first_index_excused(self, record: &[u32]) -> bool {
+    pub fn first_index_excused(self, items: u64) -> bool {
         match self {
             Slip::FirstIndexUnjudged => true,
-            Slip::FirstIndexUnjudgedWithoutItems => items_of(record) == 0,
+            Slip::FirstIndexUnjudgedWithoutItems => items == 0,
             _ => false,
         }
     }
 
-    pub fn sum_of_items(self, sum: u64, record: &[u32]) -> u64 {
-        let sum = sum + items_of(record);
+    pub fn sum_of_items(self, sum: u64, items: u64) -> u64 {
+        let sum = sum + items;
         self.pick(Slip::SumWrapsAt32, sum as u32 as u64, sum)
     }
 

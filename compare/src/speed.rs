@@ -3,20 +3,15 @@
 //! Both sides get the same bytes, the same tables of the gate's sizes, and are called through a pointer to a function
 //! that isn't inlined, so neither is compiled for these sizes. Their rounds alternate, so that a disturbance hits both.
 
+mod desk;
 mod judge;
 mod ours;
 
-use crate::archive::{State, STATE};
 use crate::clock::black_box;
 use crate::paper::*;
 use crate::realistic::Night;
+use desk::{Desk, SIZES};
 use std::time::Instant;
-
-/// The gate's tables: 64 inputs, 64 outputs, 256 items.
-const SIZES: [usize; 3] = [64 * INPUT, 64 * OUTPUT, 256 * ITEM];
-
-/// A piece as a network packet would bring it.
-const PIECE: usize = 1_400;
 
 /// The part that stays in the cache: so many transactions from the front.
 const NEAR: usize = 40;
@@ -24,44 +19,6 @@ const NEAR: usize = 40;
 /// Transactions of one clocked round: short enough that most rounds aren't interrupted, long enough that its pages
 /// exceed what the processor remembers of them.
 const STRETCH: usize = 2_000;
-
-/// What a call is lent, and where it leaves what it says.
-pub struct Desk {
-    inputs: Vec<u32>,
-    outputs: Vec<u32>,
-    items: Vec<u32>,
-    output: Vec<u8>,
-    /// Filled by the library.
-    state: State,
-    head: Head,
-    answer: [usize; 3],
-    /// Filled by the judge's forms.
-    outcome: Outcome,
-    written: Written,
-}
-
-impl Desk {
-    /// Tables full of marks, and room for the longest transaction.
-    fn new(longest: usize) -> Desk {
-        const MARK: u32 = 0x5a5a_a5a5;
-        let [inputs, outputs, items] = SIZES.map(|size| vec![MARK; size]);
-        Desk {
-            inputs,
-            outputs,
-            items,
-            output: vec![0xa5; longest],
-            state: [0; STATE],
-            head: [MARK; 7],
-            answer: [MARK as usize; 3],
-            outcome: Outcome::headless(MARK as usize, 0, 0),
-            written: Written { answer: MARK as usize, place: 0, length: 0 },
-        }
-    }
-
-    fn lent(&mut self) -> Lent<'_> {
-        Lent { inputs: &mut self.inputs, outputs: &mut self.outputs, items: &mut self.items }
-    }
-}
 
 /// One call, or one reading with its few calls. The load's source is the transaction, its tables are those of its reading.
 type Act = fn(&Order, &mut Desk);
@@ -208,6 +165,7 @@ impl Stretch<'_> {
     fn clocked(&self, act: Act, desk: &mut Desk) -> f64 {
         if self.far {
             self.loads.iter().for_each(flush_load);
+            await_flushes();
         } else {
             pass(act, self.loads, desk);
         }
@@ -310,7 +268,29 @@ fn flush<T>(slice: &[T]) {
     let mut at = bytes.start.cast::<u8>();
     while at < bytes.end.cast() {
         // SAFETY: `at` lies in the slice; flushing a line changes no value.
-        unsafe { std::arch::x86_64::_mm_clflush(at) };
+        unsafe { flush_line(at) };
         at = at.wrapping_add(LINE);
     }
+}
+
+#[cfg(target_arch = "x86_64")]
+unsafe fn flush_line(at: *const u8) {
+    std::arch::x86_64::_mm_clflush(at);
+}
+
+#[cfg(target_arch = "x86_64")]
+fn await_flushes() {
+    // SAFETY: has no memory to do with.
+    unsafe { std::arch::x86_64::_mm_mfence() };
+}
+
+#[cfg(target_arch = "aarch64")]
+unsafe fn flush_line(at: *const u8) {
+    std::arch::asm!("dc civac, {0}", in(reg) at, options(nostack, preserves_flags));
+}
+
+#[cfg(target_arch = "aarch64")]
+fn await_flushes() {
+    // SAFETY: has no memory to do with.
+    unsafe { std::arch::asm!("dsb ish", options(nostack, preserves_flags)) };
 }

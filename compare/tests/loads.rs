@@ -1,10 +1,11 @@
 //! Document 01's "Loads to try", with the values it gives, on the plain, the whole and the resumable reader,
 //! and with the feature `archive` on the library.
 
-use compare::drive::{Feeds, Reads, Resume, Tables, Whole};
+use compare::forms::{Feeds, Reads, Resume, Whole};
 use compare::paper::*;
 use compare::plain::{self, Feeding};
 use compare::slips::Slip;
+use compare::tables::Tables;
 use compare::writer;
 
 /// What a reading showed: the outcome and the three tables.
@@ -245,7 +246,7 @@ fn written_back(bytes: &[u8], shown: &Shown) {
     #[cfg(feature = "archive")]
     {
         use compare::archive::Archive;
-        use compare::drive::Writes;
+        use compare::forms::Writes;
         let mut output = vec![0xee; bytes.len() + 3];
         assert_eq!(Archive::write(&order, &mut output), written);
         assert_eq!(quick, output);

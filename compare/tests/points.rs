@@ -1,11 +1,12 @@
 //! The paper's finer points, each by its smallest input: on the plain forms and the fast ones, and with the
 //! feature `archive` on the library.
 
-use compare::drive::{Feeds, Resume, Tables};
+use compare::forms::{Feeds, Resume};
 use compare::generate::{Kind, Made, Random, Span};
 use compare::paper::*;
 use compare::plain::{self, Feeding};
 use compare::slips::Slip;
+use compare::tables::Tables;
 use compare::{whole, writer};
 
 // ---------------------------------------------------------------------------------------------------------
@@ -32,7 +33,7 @@ fn read(bytes: &[u8], sizes: [usize; 3]) -> (usize, usize, usize) {
         use compare::archive::Archive;
         assert_eq!(
             outcome,
-            <Archive as compare::drive::Reads>::read(bytes, &mut tables(sizes).lent(), false),
+            <Archive as compare::forms::Reads>::read(bytes, &mut tables(sizes).lent(), false),
             "archive"
         );
     }
@@ -211,7 +212,7 @@ fn write(
     let written = plain::written_length(&order, Slip::None);
     assert_eq!(written, writer::written_length(&order));
     #[cfg(feature = "archive")]
-    assert_eq!(written, <compare::archive::Archive as compare::drive::Writes>::written_length(&order), "archive");
+    assert_eq!(written, <compare::archive::Archive as compare::forms::Writes>::written_length(&order), "archive");
     (written.answer, written.place)
 }
 
@@ -327,7 +328,7 @@ fn the_record_decides_about_the_prefix() {
 
 /// Whether a field's bytes are bearing: all are but hashes, 32-byte parts and bodies.
 fn is_bearing(span: &Span) -> bool {
-    use compare::plain::Field::*;
+    use compare::log::Field::*;
     let parts = [Txid, BlindingNonce, Entropy, AmountCommitment, KeysCommitment, AssetPart, ValueCommitment, NoncePart];
     span.kind != Kind::Body && !parts.contains(&span.field)
 }

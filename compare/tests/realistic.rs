@@ -1,7 +1,8 @@
 //! The transactions on which speed is measured are sound, and what they are said to be.
 
+use compare::log::Ending;
 use compare::paper::*;
-use compare::plain::{self, Ending};
+use compare::plain;
 use compare::realistic::Night;
 use compare::slips::Slip;
 use compare::whole;

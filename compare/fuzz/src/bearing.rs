@@ -3,8 +3,9 @@
 //! Bearing are all bytes taken, except txids, blinding nonces, entropies, the 32-byte parts of assets, nonces and
 //! commitments, and bodies of scripts, proofs and stack items (01, "Bearing bytes").
 
+use compare::log::{Ending, Field, Reading};
 use compare::paper::*;
-use compare::plain::{self, Ending, Field, Reading};
+use compare::plain;
 use compare::slips::Slip;
 
 /// For each byte, whether it is bearing.

@@ -8,8 +8,9 @@ use crate::range::{self, in_range};
 use crate::reached;
 use crate::reading::demand_1;
 use compare::archive::{Archive, State, STATE};
-use compare::drive::{Feeds, Tables};
+use compare::forms::Feeds;
 use compare::paper::*;
+use compare::tables::Tables;
 
 pub fn check(plan: &Plan, bytes: &[u8]) {
     let (state, mut tables, rest) = case_of(plan, bytes);
@@ -35,7 +36,7 @@ fn forged(mut state: State, edits: &[Edit], sizes: [usize; 3]) -> State {
         state[at] = edit.apply(state[at] as u64) as usize;
     }
     // The first edit's place says whether the sizes stay true ones: with others, 10 hides what a state does.
-    if edits.first().is_none_or(|edit| edit.place() < 2) {
+    if edits.first().map_or(true, |edit| edit.place() < 2) {
         for table in 0..3 {
             state[range::SIZES[table]] = sizes[table];
         }

@@ -24,11 +24,12 @@ use plan::{Mode, Plan};
 
 /// Every check of one fuzz input. `slip` is `Slip::None` but when the fuzzer itself is tried.
 pub fn check(input: &[u8], slip: Slip) {
-    let Some(plan) = Plan::of(input) else { return };
-    plan.with_bytes(|bytes| match plan.mode {
-        Mode::Read => reading::check(&plan, bytes, slip),
-        Mode::Write => writing::check(&plan, bytes, slip),
-        Mode::Forge => forging::check(&plan, bytes),
-        Mode::Twin => reading::check_twin(&plan, bytes, slip),
-    });
+    if let Some(plan) = Plan::of(input) {
+        plan.with_bytes(|bytes| match plan.mode {
+            Mode::Read => reading::check(&plan, bytes, slip),
+            Mode::Write => writing::check(&plan, bytes, slip),
+            Mode::Forge => forging::check(&plan, bytes),
+            Mode::Twin => reading::check_twin(&plan, bytes, slip),
+        });
+    }
 }

@@ -4,8 +4,9 @@
 use crate::bearing::bearing;
 use crate::plan::{Edit, Mode, Plan, MOST_EDITS};
 use compare::generate::Random;
+use compare::log::Ending;
 use compare::paper::*;
-use compare::plain::{self, Ending};
+use compare::plain;
 use compare::slips::Slip;
 
 /// Bytes that mean something somewhere: prefixes, flags, what announces a longer count, the highest bits.
@@ -13,7 +14,10 @@ const TELLING: [u8; 18] = [0, 0, 1, 1, 2, 3, 4, 8, 9, 10, 11, 12, 64, 128, 252, 
 
 /// Changes the input, or says that libFuzzer should.
 pub fn mutate(input: &mut Vec<u8>, most: usize, random: &mut Random) -> bool {
-    let Some(mut plan) = Plan::of(input) else { return false };
+    let mut plan = match Plan::of(input) {
+        Some(plan) => plan,
+        None => return false,
+    };
     if random.once_in(2) {
         return false;
     }

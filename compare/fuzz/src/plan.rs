@@ -89,7 +89,10 @@ thread_local! {
 
 impl Plan {
     pub fn of(input: &[u8]) -> Option<Plan> {
-        let (header, rest) = input.split_at_checked(HEADER)?;
+        if input.len() < HEADER {
+            return None;
+        }
+        let (header, rest) = input.split_at(HEADER);
         let pair = |at: usize| u16::from_le_bytes([header[at], header[at + 1]]);
         let count = (header[19] as usize % MOST_EDITS).min(rest.len() / EDIT);
         let (edits, transaction) = rest.split_at(count * EDIT);
@@ -142,8 +145,9 @@ impl Plan {
         }
         let behind = (self.behind as usize).min(self.transaction.len());
         let (front, back) = self.transaction.split_at(self.transaction.len() - behind);
-        let length = LIMIT.saturating_add_signed(self.excess as isize);
-        ZEROS.with_borrow_mut(|zeros| {
+        let length = (LIMIT as i64 + self.excess as i64) as usize;
+        ZEROS.with(|zeros| {
+            let mut zeros = zeros.borrow_mut();
             zeros.resize(SEA, 0);
             zeros[..front.len()].copy_from_slice(front);
             zeros[length - behind..length].copy_from_slice(back);

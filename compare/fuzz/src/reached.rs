@@ -5,8 +5,9 @@
 
 use crate::range;
 use compare::archive::State;
+use compare::log::{Ending, Reading, FIELDS, PARTS};
 use compare::paper::*;
-use compare::plain::{Ending, Reading, CAUSES, FIELDS, PARTS};
+use compare::plain::CAUSES;
 use std::sync::atomic::{AtomicU8, Ordering};
 
 /// Answers of a reading: finished, refusals 1 to 11, more.
@@ -20,9 +21,13 @@ const STATES: usize = WRITTEN + CAUSES.len() + 1;
 const FORGED: usize = STATES + 2 * STAGES * FORMS;
 const COUNTERS: usize = FORGED + STAGES * FORMS * ANSWERS;
 
+// A constant, so that the array can be made of copies of it.
+#[allow(clippy::declare_interior_mutable_const)]
+const UNREACHED: AtomicU8 = AtomicU8::new(0);
+
 #[used]
 #[link_section = "__libfuzzer_extra_counters"]
-static REACHED: [AtomicU8; COUNTERS] = [const { AtomicU8::new(0) }; COUNTERS];
+static REACHED: [AtomicU8; COUNTERS] = [UNREACHED; COUNTERS];
 
 fn reached(counter: usize) {
     REACHED[counter].store(1, Ordering::Relaxed);

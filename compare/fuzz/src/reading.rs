@@ -4,11 +4,13 @@ use crate::bearing::bearing;
 use crate::plan::{Plan, SIZES};
 use crate::reached;
 use compare::archive::Archive;
-use compare::drive::{Feeds, Reads, Resume, Tables, Whole, Writes};
+use compare::forms::{Feeds, Reads, Resume, Whole, Writes};
 use compare::generate::Random;
+use compare::log::{Ending, Reading};
 use compare::paper::*;
-use compare::plain::{self, Ending, Feeding, Reading};
+use compare::plain::{self, Feeding};
 use compare::slips::Slip;
+use compare::tables::Tables;
 
 /// How a reading ended: what its last call said, the sum of bytes taken, and the tables.
 pub struct Shown {

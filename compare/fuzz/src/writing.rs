@@ -5,10 +5,12 @@ use crate::reached;
 use crate::reading::{blank, head_of, untouched, GUARD};
 use compare::archive::Archive;
 use compare::damage::Writing;
-use compare::drive::{check_writing, Bench, Reads, Tables, Writes};
+use compare::drive::{check_writing, Bench};
+use compare::forms::{Against, Reads, Writes};
 use compare::paper::*;
 use compare::plain;
 use compare::slips::Slip;
+use compare::tables::Tables;
 
 /// What an edit changes where it changes neither a table nor one of the seven head numbers.
 const SOURCE: usize = 7;
@@ -18,7 +20,7 @@ pub fn check(plan: &Plan, bytes: &[u8], slip: Slip) {
     let case = case_of(plan, bytes, slip);
     reached::written(plain::write(&case.order(), &mut blank(case.room), slip).1);
     // Agreement with the judge in answer, place, length and every byte of the output; the fee question.
-    let mut bench = Bench::default();
+    let mut bench = Bench::new(Against::All);
     if let Err(difference) = check_writing(&case, &mut bench, slip) {
         panic!("{}: {}: {}", difference.subject, difference.call, difference.what);
     }

@@ -185,7 +185,7 @@ impl Scribe<'_> {
             }
             self.judge_outpoint(record, place)?;
             self.judge_issuance(record, place)?;
-            sum = self.slip.sum_of_items(sum, record);
+            sum = self.slip.sum_of_items(sum, items_of(record));
         }
         Ok(())
     }
@@ -246,7 +246,7 @@ impl Scribe<'_> {
         if !self.body_lies(record[15], record[16]) {
             return Some("13 input: keys proof passes the source");
         }
-        if record[17] as u64 != sum && !self.slip.first_index_excused(record) {
+        if record[17] as u64 != sum && !self.slip.first_index_excused(items_of(record)) {
             return Some("13 input: first index is not the sum");
         }
         None
@@ -325,7 +325,7 @@ impl Scribe<'_> {
     }
 
     fn judge_sum(&self) -> Result<(), Unwritten> {
-        let sum = self.records(INPUTS).fold(0, |sum, record| self.slip.sum_of_items(sum, record));
+        let sum = self.records(INPUTS).fold(0, |sum, record| self.slip.sum_of_items(sum, items_of(record)));
         if sum != self.order.head[4] as u64 {
             let place = self.slip.pick(Slip::SumPlacedAtItems, self.order.head[4], self.order.head[2]);
             return refuse(13, place as usize, "13 items don't add up");
@@ -532,7 +532,7 @@ fn all_zero(numbers: &[u32]) -> bool {
 }
 
 /// Script items and pegin items of an input record. As u64: two u32 may pass 2^32.
-pub fn items_of(record: &[u32]) -> u64 {
+fn items_of(record: &[u32]) -> u64 {
     record[18] as u64 + record[19] as u64
 }
 

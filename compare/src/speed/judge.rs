@@ -1,6 +1,6 @@
 //! The judge's fast forms, each as an act.
 
-use super::{Desk, PIECE};
+use super::desk::{Desk, PIECE};
 use crate::paper::*;
 use crate::resume::Reading;
 use crate::{whole, writer};

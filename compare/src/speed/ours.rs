@@ -1,7 +1,7 @@
 //! The library's functions, each as an act: called as a C program would, without the marks and the fence of `archive`,
 //! which cost more than some of these calls.
 
-use super::{Desk, PIECE};
+use super::desk::{Desk, PIECE};
 use crate::archive::*;
 use crate::paper::*;
 

@@ -14,7 +14,10 @@ fn main() {
     for directory in std::env::args().skip(1) {
         for file in std::fs::read_dir(directory).expect("a directory of inputs") {
             let input = std::fs::read(file.expect("a file").path()).expect("an input");
-            let Some(plan) = Plan::of(&input) else { continue };
+            let plan = match Plan::of(&input) {
+                Some(plan) => plan,
+                None => continue,
+            };
             modes[plan.mode as usize] += 1;
             plan.with_bytes(|bytes| {
                 tally.inputs += 1;

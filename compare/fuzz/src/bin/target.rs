@@ -4,20 +4,18 @@
 use compare::generate::Random;
 use compare::slips::Slip;
 use std::slice::{from_raw_parts, from_raw_parts_mut};
-use std::sync::OnceLock;
 
 extern "C" {
     /// libFuzzer's own mutations.
     fn LLVMFuzzerMutate(data: *mut u8, size: usize, most: usize) -> usize;
 }
 
-/// The environment's FUZZ_SLIP switches one of the judge's slips on, to see that the fuzzer finds it.
-fn slip() -> Slip {
-    static SLIP: OnceLock<Slip> = OnceLock::new();
-    *SLIP.get_or_init(|| {
+thread_local! {
+    /// The environment's FUZZ_SLIP switches one of the judge's slips on, to see that the fuzzer finds it.
+    static SLIP: Slip = {
         let number = std::env::var("FUZZ_SLIP").ok().map(|number| number.parse().expect("FUZZ_SLIP is a number"));
         Slip::numbered(number.unwrap_or(0)).expect("there is no such slip")
-    })
+    };
 }
 
 /// # Safety
@@ -26,7 +24,7 @@ fn slip() -> Slip {
 pub unsafe extern "C" fn LLVMFuzzerTestOneInput(data: *const u8, size: usize) -> i32 {
     // SAFETY: as said; where there are none the pointer isn't looked at.
     let input = if size == 0 { &[][..] } else { unsafe { from_raw_parts(data, size) } };
-    fuzz::check(input, slip());
+    SLIP.with(|&slip| fuzz::check(input, slip));
     0
 }
 
