@@ -1,0 +1,1 @@
+//! Stands for `src/blech32.rs`: nothing of it is named.

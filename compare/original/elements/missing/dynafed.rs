@@ -1,0 +1,1 @@
+//! Stands for `src/dynafed.rs`: nothing of it is named.

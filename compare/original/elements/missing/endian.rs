@@ -1,0 +1,1 @@
+//! Stands for `src/endian.rs`: nothing of it is named.
