@@ -312,7 +312,8 @@ pub record Demand-2 {S : Type 0} (r : Reader S) (w : Writer) : Type 0 where
   pub again :
       (h : Head) (t : Tables) (source out : List ℕ) (n : ℕ) → Lent h t source → w .write h t source out .answer ≡ wrote n
       → (u : Tables) (v : Way) → Room (sizes u) h → Carries v (take n (w .write h t source out .output)) → Same h t source n (offered v) (read r u v)
-  -- "On the domain in 01 all this equals the Rust." The Rust can't be run here, and document 01 decides: `AsPaper` stands in for it.
+  -- "On the domain in 01 all this equals the Rust." No theorem says it; its own text was run over shims (docs/DIFFERENCES.md, section 7). Document 01
+  -- decides: `AsPaper` stands in for it.
 
 -- ---- demand 3
 
