@@ -1,4 +1,4 @@
-// The reader on document 01's loads and on edges of its rules. Each line was worked out from document 01 (crates/layout/proofs/Loads.antt
+// The reader on document 01's loads and on edges of its rules. Each line was worked out from document 01 (crates/loads/proofs/Loads.antt
 // has most of the loads, with their bytes laid out). Bytes that a reading never looks at are `e`.
 use decoders::Answer;
 use decoders::Fed;

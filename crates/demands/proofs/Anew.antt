@@ -416,7 +416,7 @@ anew-one s t =
   where
     told-one : (b : Bool) (z : Sizes) (xs : List ℕ) → told b z xs .answer ≡ more → atOnce z xs .answer ≡ refused 1 (length xs)
     told-one true z xs e = absurd (once-ends z xs e)
-    told-one false z xs e = one-byte-more z xs e
+    told-one false z xs e = ap (λ (o : Outcome). o .answer) (one-byte-more z xs e)
 
 -- over the tables that it left, it leaves what it reads anew
 unaltered : (s : Heard) (q : Ask) → work s (heard s .tables) q .outcome .tables ≡ heard (grown s q) .tables

@@ -2,6 +2,7 @@
 --     forth   reading the bytes of good contents, and anything behind them, goes on behind them with the part's entries
 --     back    where a reading finishes, it began with the bytes of some good contents, and goes on behind them
 --     traced  reading the bytes of good contents does this in order, and goes on behind them
+--     judged  of whatever length, its first field that would end past the limit is refused; if there is none, it goes on
 use Prim.Native.Nat.{ℕ, zero, suc, _+_, _-_, _*_, _^_, _<_, _≤_}
 use mathlib.Core.Path.{_≡_, refl, sym, _∙_, ap, ap₂, subst}
 use mathlib.Core.Bool.{Bool, true, false, cond}
@@ -10,12 +11,14 @@ use native.Mathlib.Nat.{add-assoc, add-zero, zero-add}
 use native.Mathlib.Omega.{arith}
 use lib.Dec.{leb}
 use lib.ListN.{length, take, drop, getD, length-append, length-take, length-drop, take-append-drop}
-use lib.Seq.{take-at, drop-at, length-take-le, getD-append-add}
+use lib.Seq.{take-at, drop-at, length-take-le, getD-append-add, take-append-le, take-append-add}
 use borrow.Author.Tests.{leb-true, leb-false, le-leb, lt-leb}
 use Rattle.layout.specs.Number.{Order, value, bytesOf, Bytes}
 use Rattle.layout.specs.Layout.{Layout, number, opaque, enter, refuse, accept, Answer, finished, more, refused, Reading, reading, behind, noted, Entry, Hidden, run}
-use Rattle.layout.specs.Transaction.{Head, limit, within, furtherAt, numberAt, opaqueAt, each, alone}
+use Rattle.layout.specs.Transaction.{Head, limit, within, furtherAt, numberAt, opaqueAt, countAt, bodyAt, valueAt, prefixedAt, issuanceAt, assetPrefix, noncePrefix, each, alone}
 use Rattle.layout.specs.Contents.{Fixed, Every, flat, compactBytes, listBytes}
+use Rattle.layout.specs.Fields.{Field, field, fixed, fieldsEach, limited}
+use Rattle.layout.specs.Sites.{What, counts, lengths, values, assets, nonces, issuances, Site, site, sitesEach}
 use Rattle.layout.proofs.Number.{bytes-take, bytes-drop, value-bytes, bytes-value, length-bytes, bytes-bytes, value-small}
 use Rattle.layout.proofs.Trace.{Event, enters, entering, looked, passed, trace, met, fieldTrace, trace-there}
 use Rattle.layout.proofs.Reading.{by-cases, fieldRun, field-there, field-case, finished-not-more, refused-not-finished}
@@ -31,6 +34,40 @@ Part S = ℕ → (S → ℕ → Layout Head) → Layout Head
 abbrev pub after : ℕ → List Entry → Reading Head → Reading Head
 after n es r = reading (r .answer) (n + r .taken) (es ++ r .log)
 
+-- an answer, and the position up to which bytes are taken
+abbrev pub settled : ℕ → Reading Head → Answer Head × ℕ
+settled at r = (r .answer, at + r .taken)
+
+pub limited-append : (fs gs : List Field) (z : Answer Head × ℕ) → limited (fs ++ gs) z ≡ limited fs (limited gs z)
+unfolding limited
+limited-append [] gs z = refl
+limited-append (f ∷ fs) gs z = ap (λ (y : Answer Head × ℕ). cond (leb (f .end) limit) y (refused 2 (f .place), f .start)) (limited-append fs gs z)
+
+-- the part that stands at a site
+abbrev pub Stand : What → ℕ → Layout Head → Type 0
+Stand (counts left) at l = (k : ℕ → ℕ → Layout Head) × (l ≡ countAt at left k)
+Stand lengths at l = (h : Hidden) × (note : ℕ → ℕ → Entry) × (k : ℕ → ℕ → Layout Head) × (l ≡ bodyAt at h note k)
+Stand values at l = (note : ℕ → ℕ → Entry) × (amount : ℕ → ℕ → Entry) × (k : ℕ → ℕ → Layout Head) × (l ≡ valueAt at note amount k)
+Stand assets at l = (h : Hidden) × (note : ℕ → ℕ → Entry) × (k : ℕ → Layout Head) × (l ≡ prefixedAt at h assetPrefix note k)
+Stand nonces at l = (h : Hidden) × (note : ℕ → ℕ → Entry) × (k : ℕ → Layout Head) × (l ≡ prefixedAt at h noncePrefix note k)
+Stand issuances at l = (i : ℕ) × (k : ℕ → Layout Head) × (l ≡ issuanceAt i at k)
+
+-- a reading comes to a site behind the bytes before it, whatever follows, and its part stands there
+pub record Comes (l : Layout Head) (bs : List ℕ) (at : ℕ) (s : Site) : Type 0 where
+  pub from : at ≤ s .at
+  pub upto : s .at ≤ at + length bs
+  pub next : Layout Head
+  pub stands : Stand (s .what) (s .at) next
+  pub goes : s .at ≤ limit → (rest : List ℕ) → settled at (run l (take (s .at - at) bs ++ rest)) ≡ settled (s .at) (run next rest)
+
+every-both : {X : Type 0} (P : X → Type 0) (xs ys : List X) → Every P xs → Every P ys → Every P (xs ++ ys)
+every-both P [] ys a b = b
+every-both P (x ∷ xs) ys a b = (a .0, every-both P xs ys (a .1) b)
+
+every-as : {X : Type 0} (P Q : X → Type 0) → ((x : X) → P x → Q x) → (xs : List X) → Every P xs → Every Q xs
+every-as P Q f [] a = tt
+every-as P Q f (x ∷ xs) a = (f x (a .0), every-as P Q f xs (a .1))
+
 abbrev pub Finishes : Layout Head → List ℕ → Head → Type 0
 Finishes l xs a = run l xs .answer ≡ finished a
 
@@ -43,10 +80,12 @@ pub record Began {X S : Type 0} (Good : X → Type 0) (bytes : X → List ℕ) (
   pub ends : at + length (bytes held) ≤ limit
   pub goes : Finishes (k (out held) (at + length (bytes held))) rest a
 
-pub record Codes {X S : Type 0} (part : Part S) (Good : X → Type 0) (bytes : X → List ℕ) (log : ℕ → X → List Entry) (events : ℕ → X → List Event) (out : X → S) : Type 0 where
+pub record Codes {X S : Type 0} (part : Part S) (Good : X → Type 0) (bytes : X → List ℕ) (log : ℕ → X → List Entry) (events : ℕ → X → List Event) (fields : ℕ → X → List Field) (sites : ℕ → X → List Site) (out : X → S) : Type 0 where
   pub forth : (x : X) → Good x → (at : ℕ) (k : S → ℕ → Layout Head) (ys : List ℕ) → at + length (bytes x) ≤ limit → run (part at k) (bytes x ++ ys) ≡ after (length (bytes x)) (log at x) (run (k (out x) (at + length (bytes x))) ys)
   pub back : (at : ℕ) (k : S → ℕ → Layout Head) (xs : List ℕ) (a : Head) → Bytes xs → at ≤ limit → Finishes (part at k) xs a → Began Good bytes out at k xs a
   pub traced : (x : X) → Good x → (at : ℕ) (k : S → ℕ → Layout Head) (ys : List ℕ) → at + length (bytes x) ≤ limit → trace (part at k) (bytes x ++ ys) ≡ events at x ++ trace (k (out x) (at + length (bytes x))) ys
+  pub judged : (x : X) → Good x → length (bytes x) < 2 ^ 64 → (at : ℕ) (k : S → ℕ → Layout Head) (ys : List ℕ) → settled at (run (part at k) (bytes x ++ ys)) ≡ limited (fields at x) (settled (at + length (bytes x)) (run (k (out x) (at + length (bytes x))) ys))
+  pub reach : (x : X) → Good x → length (bytes x) < 2 ^ 64 → (at : ℕ) (k : S → ℕ → Layout Head) → Every (Comes (part at k) (bytes x) at) (sites at x)
 
 -- what was held, as other contents
 pub began-as : {X Y S : Type 0} {Good : X → Type 0} {bytes : X → List ℕ} {out : X → S} {Good′ : Y → Type 0} {bytes′ : Y → List ℕ} {out′ : Y → S} {at : ℕ} {k : S → ℕ → Layout Head} {xs : List ℕ} {a : Head} (u : Began Good bytes out at k xs a) (y : Y) → Good′ y → bytes′ y ≡ bytes (u .held) → out′ y ≡ out (u .held) → Began Good′ bytes′ out′ at k xs a
@@ -63,9 +102,9 @@ began-as {S = S} {out = out} {bytes′ = bytes′} {at = at} {k = k} {a = a} u y
 -- ---- putting parts together
 
 -- one part, and then another that may depend on it
-module _ {X Y S T : Type 0} {P : Part S} {GoodP : X → Type 0} {bytesP : X → List ℕ} {logP : ℕ → X → List Entry} {eventsP : ℕ → X → List Event} {outP : X → S}
-    {Q : ℕ → S → Part T} {GoodQ : X → Y → Type 0} {bytesQ : X → Y → List ℕ} {logQ : ℕ → X → ℕ → Y → List Entry} {eventsQ : ℕ → X → ℕ → Y → List Event} {outQ : X → Y → T} where
-  pub then : Codes P GoodP bytesP logP eventsP outP → ((at : ℕ) (x : X) → GoodP x → Codes (Q at (outP x)) (GoodQ x) (bytesQ x) (logQ at x) (eventsQ at x) (outQ x)) → Codes (λ at k. P at (λ s at′. Q at s at′ k)) (λ (z : X × Y). GoodP (z .0) × GoodQ (z .0) (z .1)) (λ z. bytesP (z .0) ++ bytesQ (z .0) (z .1)) (λ at z. logP at (z .0) ++ logQ at (z .0) (at + length (bytesP (z .0))) (z .1)) (λ at z. eventsP at (z .0) ++ eventsQ at (z .0) (at + length (bytesP (z .0))) (z .1)) (λ z. outQ (z .0) (z .1))
+module _ {X Y S T : Type 0} {P : Part S} {GoodP : X → Type 0} {bytesP : X → List ℕ} {logP : ℕ → X → List Entry} {eventsP : ℕ → X → List Event} {fieldsP : ℕ → X → List Field} {sitesP : ℕ → X → List Site} {outP : X → S}
+    {Q : ℕ → S → Part T} {GoodQ : X → Y → Type 0} {bytesQ : X → Y → List ℕ} {logQ : ℕ → X → ℕ → Y → List Entry} {eventsQ : ℕ → X → ℕ → Y → List Event} {fieldsQ : ℕ → X → ℕ → Y → List Field} {sitesQ : ℕ → X → ℕ → Y → List Site} {outQ : X → Y → T} where
+  pub then : Codes P GoodP bytesP logP eventsP fieldsP sitesP outP → ((at : ℕ) (x : X) → GoodP x → Codes (Q at (outP x)) (GoodQ x) (bytesQ x) (logQ at x) (eventsQ at x) (fieldsQ at x) (sitesQ at x) (outQ x)) → Codes (λ at k. P at (λ s at′. Q at s at′ k)) (λ (z : X × Y). GoodP (z .0) × GoodQ (z .0) (z .1)) (λ z. bytesP (z .0) ++ bytesQ (z .0) (z .1)) (λ at z. logP at (z .0) ++ logQ at (z .0) (at + length (bytesP (z .0))) (z .1)) (λ at z. eventsP at (z .0) ++ eventsQ at (z .0) (at + length (bytesP (z .0))) (z .1)) (λ at z. fieldsP at (z .0) ++ fieldsQ at (z .0) (at + length (bytesP (z .0))) (z .1)) (λ at z. sitesP at (z .0) ++ sitesQ at (z .0) (at + length (bytesP (z .0))) (z .1)) (λ z. outQ (z .0) (z .1))
   then p q =
       record {
         forth = λ z g at k ys h.
@@ -110,11 +149,57 @@ module _ {X Y S T : Type 0} {P : Part S} {GoodP : X → Type 0} {bytesP : X → 
             ∙ ap (λ (t : List Event). eventsP at x ++ t) (q at x (g .0) .traced y (g .1) (at + length b) k ys (omega arith))
             ∙ sym (append-assoc (eventsP at x) (eventsQ at x (at + length b) y) (trace (k (outQ x y) (at + length b + length c)) ys))
             ∙ ap (λ (n : ℕ). (eventsP at x ++ eventsQ at x (at + length b) y) ++ trace (k (outQ x y) n) ys) e;
+        judged = λ z g small at k ys.
+            let x = z .0 in
+            let y = z .1 in
+            let b = bytesP x in
+            let c = bytesQ x y in
+            let both : length (b ++ c) ≡ length b + length c = length-append b c in
+            let k′ : S → ℕ → Layout Head = λ s at′. Q at s at′ k in
+            let e : at + length b + length c ≡ at + length (b ++ c) = omega arith in
+            ap (λ (l : List ℕ). settled at (run (P at k′) l)) (append-assoc b c ys)
+            ∙ p .judged x (g .0) (omega arith) at k′ (c ++ ys)
+            ∙ ap (limited (fieldsP at x)) (q at x (g .0) .judged y (g .1) (omega arith) (at + length b) k ys)
+            ∙ ap (λ (n : ℕ). limited (fieldsP at x) (limited (fieldsQ at x (at + length b) y) (settled n (run (k (outQ x y) n) ys)))) e
+            ∙ sym (limited-append (fieldsP at x) (fieldsQ at x (at + length b) y) (settled (at + length (b ++ c)) (run (k (outQ x y) (at + length (b ++ c))) ys)));
+        reach = λ z g small at k.
+            let x = z .0 in
+            let y = z .1 in
+            let b = bytesP x in
+            let c = bytesQ x y in
+            let both : length (b ++ c) ≡ length b + length c = length-append b c in
+            let k′ : S → ℕ → Layout Head = λ s at′. Q at s at′ k in
+            every-both (Comes (P at k′) (b ++ c) at) (sitesP at x) (sitesQ at x (at + length b) y)
+            (every-as (Comes (P at k′) b at) (Comes (P at k′) (b ++ c) at) (λ s w.
+            record {
+              from = w .from;
+              upto = omega (arith, w .upto);
+              next = w .next;
+              stands = w .stands;
+              goes = λ h rest. ap (λ (l : List ℕ). settled at (run (P at k′) (l ++ rest))) (take-append-le (s .at - at) b c (omega (arith, w .upto, w .from))) ∙ w .goes h rest;
+            }) (sitesP at x) (p .reach x (g .0) (omega arith) at k′))
+            (every-as (Comes (Q at (outP x) (at + length b) k) c (at + length b)) (Comes (P at k′) (b ++ c) at) (λ s w.
+            record {
+              from = omega (arith, w .from);
+              upto = omega (arith, w .upto);
+              next = w .next;
+              stands = w .stands;
+              goes = λ h rest.
+                  let d = s .at - (at + length b) in
+                  let e : s .at - at ≡ length b + d = omega (arith, w .from) in
+                  let r = run (Q at (outP x) (at + length b) k) (take d c ++ rest) in
+                  ap (λ (n : ℕ). settled at (run (P at k′) (take n (b ++ c) ++ rest))) e
+                  ∙ ap (λ (l : List ℕ). settled at (run (P at k′) (l ++ rest))) (take-append-add b c d)
+                  ∙ ap (λ (l : List ℕ). settled at (run (P at k′) l)) (append-assoc b (take d c) rest)
+                  ∙ ap (settled at) (p .forth x (g .0) at k′ (take d c ++ rest) (omega (arith, w .from)))
+                  ∙ ap (λ (n : ℕ). (r .answer, n)) (sym (add-assoc at (length b) (r .taken)))
+                  ∙ w .goes h rest;
+            }) (sitesQ at x (at + length b) y) (q at x (g .0) .reach y (g .1) (omega arith) (at + length b) k));
       }
 
 -- a part whose entry follows it, and one whose result is tested
-module _ {X S : Type 0} {P : Part S} {Good : X → Type 0} {bytes : X → List ℕ} {log : ℕ → X → List Entry} {events : ℕ → X → List Event} {out : X → S} where
-  pub noting : (e : ℕ → S → Entry) → Codes P Good bytes log events out → Codes (λ at k. P at (λ s at′. enter (e at s) (k s at′))) Good bytes (λ at x. log at x ++ (e at (out x) ∷ [])) (λ at x. entering (events at x) (e at (out x))) out
+module _ {X S : Type 0} {P : Part S} {Good : X → Type 0} {bytes : X → List ℕ} {log : ℕ → X → List Entry} {events : ℕ → X → List Event} {fields : ℕ → X → List Field} {sites : ℕ → X → List Site} {out : X → S} where
+  pub noting : (e : ℕ → S → Entry) → Codes P Good bytes log events fields sites out → Codes (λ at k. P at (λ s at′. enter (e at s) (k s at′))) Good bytes (λ at x. log at x ++ (e at (out x) ∷ [])) (λ at x. entering (events at x) (e at (out x))) fields sites out
   unfolding run trace
   noting e p =
       record {
@@ -126,9 +211,11 @@ module _ {X S : Type 0} {P : Part S} {Good : X → Type 0} {bytes : X → List �
             record { held = u .held; rest = u .rest; good = u .good; same = u .same; ends = u .ends; goes = u .goes };
         traced = λ x g at k ys h.
             p .traced x g at (λ s at′. enter (e at s) (k s at′)) ys h ∙ sym (append-assoc (events at x) (enters (e at (out x)) ∷ []) (trace (k (out x) (at + length (bytes x))) ys));
+        judged = λ x g small at k ys. p .judged x g small at (λ s at′. enter (e at s) (k s at′)) ys;
+        reach = λ x g small at k. p .reach x g small at (λ s at′. enter (e at s) (k s at′));
       }
 
-  pub passing : (t : S → Bool) (n : ℕ) (place : ℕ → ℕ) → Codes P Good bytes log events out → Codes (λ at k. P at (λ s at′. cond (t s) (k s at′) (refuse n (place at)))) (λ x. Good x × (t (out x) ≡ true)) bytes log events out
+  pub passing : (t : S → Bool) (n : ℕ) (place : ℕ → ℕ) → Codes P Good bytes log events fields sites out → Codes (λ at k. P at (λ s at′. cond (t s) (k s at′) (refuse n (place at)))) (λ x. Good x × (t (out x) ≡ true)) bytes log events fields sites out
   unfolding run
   passing t n place p =
       record {
@@ -144,9 +231,13 @@ module _ {X S : Type 0} {P : Part S} {Good : X → Type 0} {bytes : X → List �
         traced = λ x g at k ys h.
             p .traced x (g .0) at (λ s at′. cond (t s) (k s at′) (refuse n (place at))) ys h
             ∙ ap (λ (b : Bool). events at x ++ trace (cond b (k (out x) (at + length (bytes x))) (refuse n (place at))) ys) (g .1);
+        judged = λ x g small at k ys.
+            p .judged x (g .0) small at (λ s at′. cond (t s) (k s at′) (refuse n (place at))) ys
+            ∙ ap (λ (b : Bool). limited (fields at x) (settled (at + length (bytes x)) (run (cond b (k (out x) (at + length (bytes x))) (refuse n (place at))) ys))) (g .1);
+        reach = λ x g small at k. p .reach x (g .0) small at (λ s at′. cond (t s) (k s at′) (refuse n (place at)));
       }
 
-  pub failing : (t : S → Bool) (n place : ℕ) → Codes P Good bytes log events out → Codes (λ at k. P at (λ s at′. cond (t s) (refuse n place) (k s at′))) (λ x. Good x × (t (out x) ≡ false)) bytes log events out
+  pub failing : (t : S → Bool) (n place : ℕ) → Codes P Good bytes log events fields sites out → Codes (λ at k. P at (λ s at′. cond (t s) (refuse n place) (k s at′))) (λ x. Good x × (t (out x) ≡ false)) bytes log events fields sites out
   unfolding run
   failing t n place p =
       record {
@@ -162,21 +253,27 @@ module _ {X S : Type 0} {P : Part S} {Good : X → Type 0} {bytes : X → List �
         traced = λ x g at k ys h.
             p .traced x (g .0) at (λ s at′. cond (t s) (refuse n place) (k s at′)) ys h
             ∙ ap (λ (b : Bool). events at x ++ trace (cond b (refuse n place) (k (out x) (at + length (bytes x)))) ys) (g .1);
+        judged = λ x g small at k ys.
+            p .judged x (g .0) small at (λ s at′. cond (t s) (refuse n place) (k s at′)) ys
+            ∙ ap (λ (b : Bool). limited (fields at x) (settled (at + length (bytes x)) (run (cond b (refuse n place) (k (out x) (at + length (bytes x)))) ys))) (g .1);
+        reach = λ x g small at k. p .reach x (g .0) small at (λ s at′. cond (t s) (refuse n place) (k s at′));
       }
 
   -- the same part as a coding of other contents
-  module _ {Y : Type 0} {Good′ : Y → Type 0} {bytes′ : Y → List ℕ} {log′ : ℕ → Y → List Entry} {events′ : ℕ → Y → List Event} {out′ : Y → S} where
+  module _ {Y : Type 0} {Good′ : Y → Type 0} {bytes′ : Y → List ℕ} {log′ : ℕ → Y → List Entry} {events′ : ℕ → Y → List Event} {fields′ : ℕ → Y → List Field} {sites′ : ℕ → Y → List Site} {out′ : Y → S} where
     pub seen-as :
         (to : Y → X)
-        → ((y : Y) → Good′ y → length (bytes′ y) ≤ limit → Good (to y))
+        → ((y : Y) → Good′ y → length (bytes′ y) < 2 ^ 64 → Good (to y))
         → ((y : Y) → Good′ y → bytes′ y ≡ bytes (to y))
         → ((at : ℕ) (y : Y) → Good′ y → log′ at y ≡ log at (to y))
         → ((at : ℕ) (y : Y) → Good′ y → events′ at y ≡ events at (to y))
+        → ((at : ℕ) (y : Y) → Good′ y → fields′ at y ≡ fields at (to y))
+        → ((at : ℕ) (y : Y) → Good′ y → sites′ at y ≡ sites at (to y))
         → ((y : Y) → Good′ y → out′ y ≡ out (to y))
         → ((x : X) → Good x → (y : Y) × Good′ y × (to y ≡ x))
-        → Codes P Good bytes log events out
-        → Codes P Good′ bytes′ log′ events′ out′
-    seen-as to goods spells logs tells hands finds p =
+        → Codes P Good bytes log events fields sites out
+        → Codes P Good′ bytes′ log′ events′ fields′ sites′ out′
+    seen-as to goods spells logs tells parts places hands finds p =
         record {
           forth = λ y g at k ys h.
               let e = spells y g in
@@ -196,10 +293,21 @@ module _ {X S : Type 0} {P : Part S} {Good : X → Type 0} {bytes : X → List �
               ∙ p .traced x (goods y g (omega arith)) at k ys (subst (λ (l : List ℕ). at + length l ≤ limit) e h)
               ∙ ap (λ (l : List ℕ). events at x ++ trace (k (out x) (at + length l)) ys) (sym e)
               ∙ ap₂ (λ (es : List Event) (s : S). es ++ trace (k s (at + length (bytes′ y))) ys) (sym (tells at y g)) (sym (hands y g));
+          judged = λ y g small at k ys.
+              let e = spells y g in
+              let x = to y in
+              ap (λ (l : List ℕ). settled at (run (P at k) (l ++ ys))) e
+              ∙ p .judged x (goods y g small) (subst (λ (l : List ℕ). length l < 2 ^ 64) e small) at k ys
+              ∙ ap (λ (l : List ℕ). limited (fields at x) (settled (at + length l) (run (k (out x) (at + length l)) ys))) (sym e)
+              ∙ ap₂ (λ (fs : List Field) (s : S). limited fs (settled (at + length (bytes′ y)) (run (k s (at + length (bytes′ y))) ys))) (sym (parts at y g)) (sym (hands y g));
+          reach = λ y g small at k.
+              let e = spells y g in
+              subst (λ (l : List ℕ). Every (Comes (P at k) l at) (sites′ at y)) (sym e)
+              (subst (λ (ss : List Site). Every (Comes (P at k) (bytes (to y)) at) ss) (sym (places at y g)) (p .reach (to y) (goods y g small) (subst (λ (l : List ℕ). length l < 2 ^ 64) e small) at k));
         }
 
 -- a part's result as another
-pub handing : {X S T : Type 0} {P : Part S} {Good : X → Type 0} {bytes : X → List ℕ} {log : ℕ → X → List Entry} {events : ℕ → X → List Event} {out : X → S} (f : S → T) → Codes P Good bytes log events out → Codes (λ at (k : T → ℕ → Layout Head). P at (λ s. k (f s))) Good bytes log events (λ x. f (out x))
+pub handing : {X S T : Type 0} {P : Part S} {Good : X → Type 0} {bytes : X → List ℕ} {log : ℕ → X → List Entry} {events : ℕ → X → List Event} {fields : ℕ → X → List Field} {sites : ℕ → X → List Site} {out : X → S} (f : S → T) → Codes P Good bytes log events fields sites out → Codes (λ at (k : T → ℕ → Layout Head). P at (λ s. k (f s))) Good bytes log events fields sites (λ x. f (out x))
 handing f p =
     record {
       forth = λ x g at k ys h. p .forth x g at (λ s. k (f s)) ys h;
@@ -207,30 +315,49 @@ handing f p =
           let u = p .back at (λ s. k (f s)) xs a bs h e in
           record { held = u .held; rest = u .rest; good = u .good; same = u .same; ends = u .ends; goes = u .goes };
       traced = λ x g at k ys h. p .traced x g at (λ s. k (f s)) ys h;
+      judged = λ x g small at k ys. p .judged x g small at (λ s. k (f s)) ys;
+      reach = λ x g small at k. p .reach x g small at (λ s. k (f s));
+    }
+
+-- a part that is a site itself
+pub standing : {X S : Type 0} {P : Part S} {Good : X → Type 0} {bytes : X → List ℕ} {log : ℕ → X → List Entry} {events : ℕ → X → List Event} {fields : ℕ → X → List Field} {sites : ℕ → X → List Site} {out : X → S} (what : What) → ((at : ℕ) (k : S → ℕ → Layout Head) → Stand what at (P at k)) → Codes P Good bytes log events fields sites out → Codes P Good bytes log events fields (λ at x. site at what ∷ sites at x) out
+standing {P = P} {bytes = bytes} what is p =
+    record {
+      forth = p .forth;
+      back = p .back;
+      traced = p .traced;
+      judged = p .judged;
+      reach = λ x g small at k. (
+        record { from = omega arith; upto = omega arith; next = P at k; stands = is at k; goes = λ h rest. let e : at - at ≡ 0 = omega arith in ap (λ (n : ℕ). settled at (run (P at k) (take n (bytes x) ++ rest))) e },
+        p .reach x g small at k,
+      );
     }
 
 -- the branch that a test takes
-module _ {X S : Type 0} {Good : X → Type 0} {bytes : X → List ℕ} {log : ℕ → X → List Entry} {events : ℕ → X → List Event} {out : X → S} (t : Bool) (P Q : Part S) where
-  pub if-true : t ≡ true → Codes P Good bytes log events out → Codes (λ at k. cond t (P at k) (Q at k)) Good bytes log events out
-  if-true e p = subst (λ (b : Bool). Codes (λ at k. cond b (P at k) (Q at k)) Good bytes log events out) (sym e) p
+module _ {X S : Type 0} {Good : X → Type 0} {bytes : X → List ℕ} {log : ℕ → X → List Entry} {events : ℕ → X → List Event} {fields : ℕ → X → List Field} {sites : ℕ → X → List Site} {out : X → S} (t : Bool) (P Q : Part S) where
+  pub if-true : t ≡ true → Codes P Good bytes log events fields sites out → Codes (λ at k. cond t (P at k) (Q at k)) Good bytes log events fields sites out
+  if-true e p = subst (λ (b : Bool). Codes (λ at k. cond b (P at k) (Q at k)) Good bytes log events fields sites out) (sym e) p
 
-  pub if-false : t ≡ false → Codes Q Good bytes log events out → Codes (λ at k. cond t (P at k) (Q at k)) Good bytes log events out
-  if-false e q = subst (λ (b : Bool). Codes (λ at k. cond b (P at k) (Q at k)) Good bytes log events out) (sym e) q
+  pub if-false : t ≡ false → Codes Q Good bytes log events fields sites out → Codes (λ at k. cond t (P at k) (Q at k)) Good bytes log events fields sites out
+  if-false e q = subst (λ (b : Bool). Codes (λ at k. cond b (P at k) (Q at k)) Good bytes log events fields sites out) (sym e) q
 
 -- no bytes
-pub empty-codes : {S : Type 0} (s : S) → Codes (λ at k. k s at) (λ (x : Unit {0}). Unit {0}) (λ x. []) (λ at x. []) (λ at x. []) (λ x. s)
+pub empty-codes : {S : Type 0} (s : S) → Codes (λ at k. k s at) (λ (x : Unit {0}). Unit {0}) (λ x. []) (λ at x. []) (λ at x. []) (λ at x. []) (λ at x. []) (λ x. s)
+unfolding limited
 empty-codes s =
     record {
       forth = λ x g at k ys h.
           ap (λ (n : ℕ). run (k s n) ys) (sym (add-zero at)) ∙ (let r = run (k s (at + 0)) ys in ap (λ (n : ℕ). reading (r .answer) n (r .log)) (sym (zero-add (r .taken))));
       back = λ at k xs a bs h f. record { held = tt; rest = xs; good = tt; same = refl; ends = omega arith; goes = subst (λ (n : ℕ). Finishes (k s n) xs a) (sym (add-zero at)) f };
       traced = λ x g at k ys h. ap (λ (n : ℕ). trace (k s n) ys) (sym (add-zero at));
+      judged = λ x g small at k ys. ap (λ (n : ℕ). settled n (run (k s n) ys)) (sym (add-zero at));
+      reach = λ x g small at k. tt;
     }
 
 -- no contents at all
-pub refuse-codes : {X S : Type 0} {Good : X → Type 0} {bytes : X → List ℕ} {log : ℕ → X → List Entry} {events : ℕ → X → List Event} {out : X → S} (n place : ℕ) → ((x : X) → Good x → ⊥) → Codes (λ at k. refuse n place) Good bytes log events out
+pub refuse-codes : {X S : Type 0} {Good : X → Type 0} {bytes : X → List ℕ} {log : ℕ → X → List Entry} {events : ℕ → X → List Event} {fields : ℕ → X → List Field} {sites : ℕ → X → List Site} {out : X → S} (n place : ℕ) → ((x : X) → Good x → ⊥) → Codes (λ at k. refuse n place) Good bytes log events fields sites out
 unfolding run
-refuse-codes n place never = record { forth = λ x g. absurd (never x g); back = λ at k xs a bs h f. absurd (refused-not-finished f); traced = λ x g. absurd (never x g) }
+refuse-codes n place never = record { forth = λ x g. absurd (never x g); back = λ at k xs a bs h f. absurd (refused-not-finished f); traced = λ x g. absurd (never x g); judged = λ x g. absurd (never x g); reach = λ x g. absurd (never x g) }
 
 -- ---- so many of one kind; each hands on what later ones need of it
 
@@ -252,7 +379,12 @@ module _ {X S : Type 0} (bytes : X → List ℕ) (events : ℕ → S → ℕ →
   eventsEach i s at [] = []
   eventsEach i s at (x ∷ xs) = events i s at x ++ eventsEach (suc i) (next s x) (at + length (bytes x)) xs
 
-module _ {X S : Type 0} (part : ℕ → S → Part S) (Good : S → X → Type 0) (bytes : X → List ℕ) (log : ℕ → S → ℕ → X → List Entry) (events : ℕ → S → ℕ → X → List Event) (next : S → X → S) where
+module _ {X S : Type 0} (bytes : X → List ℕ) (sites : S → ℕ → X → List Site) (next : S → X → S) where
+  abbrev pub sitesAll : S → ℕ → List X → List Site
+  sitesAll s at [] = []
+  sitesAll s at (x ∷ xs) = sites s at x ++ sitesAll (next s x) (at + length (bytes x)) xs
+
+module _ {X S : Type 0} (part : ℕ → S → Part S) (Good : S → X → Type 0) (bytes : X → List ℕ) (log : ℕ → S → ℕ → X → List Entry) (events : ℕ → S → ℕ → X → List Event) (fields : ℕ → X → List Field) (sites : S → ℕ → X → List Site) (next : S → X → S) where
   abbrev Goods : S → List X → Type 0
   Goods = GoodEach part Good bytes log next
 
@@ -266,11 +398,11 @@ module _ {X S : Type 0} (part : ℕ → S → Part S) (Good : S → X → Type 0
   nexts = nextEach part Good bytes log next
 
   abbrev Eaches : ℕ → ℕ → S → Type 0
-  Eaches n i s = Codes (λ at k. each part n i s at k) (λ xs. (length xs ≡ n) × Goods s xs) (flat bytes) (logs i s) (tells i s) (nexts s)
+  Eaches n i s = Codes (λ at k. each part n i s at k) (λ xs. (length xs ≡ n) × Goods s xs) (flat bytes) (logs i s) (tells i s) (fieldsEach bytes fields) (sitesAll bytes sites next s) (nexts s)
 
   no-each : (i : ℕ) (s : S) → Eaches 0 i s
-  unfolding each flat
-  no-each i s = seen-as {Y = List X} (λ xs. tt) (λ xs g h. tt) none-bytes none-log none-events none-next (λ x g. ([], (refl, tt), refl)) (empty-codes s)
+  unfolding each flat fieldsEach
+  no-each i s = seen-as {Y = List X} (λ xs. tt) (λ xs g h. tt) none-bytes none-log none-events none-fields none-sites none-next (λ x g. ([], (refl, tt), refl)) (empty-codes s)
     where
       none-bytes : (xs : List X) → (length xs ≡ 0) × Goods s xs → flat bytes xs ≡ []
       none-bytes [] g = refl
@@ -284,17 +416,25 @@ module _ {X S : Type 0} (part : ℕ → S → Part S) (Good : S → X → Type 0
       none-events at [] g = refl
       none-events at (x ∷ xs) g = absurd (omega (arith, g .0))
 
+      none-fields : (at : ℕ) (xs : List X) → (length xs ≡ 0) × Goods s xs → fieldsEach bytes fields at xs ≡ []
+      none-fields at [] g = refl
+      none-fields at (x ∷ xs) g = absurd (omega (arith, g .0))
+
+      none-sites : (at : ℕ) (xs : List X) → (length xs ≡ 0) × Goods s xs → sitesAll bytes sites next s at xs ≡ []
+      none-sites at [] g = refl
+      none-sites at (x ∷ xs) g = absurd (omega (arith, g .0))
+
       none-next : (xs : List X) → (length xs ≡ 0) × Goods s xs → nexts s xs ≡ s
       none-next [] g = refl
       none-next (x ∷ xs) g = absurd (omega (arith, g .0))
 
   -- one, and then n more
-  ahead : (n i : ℕ) (s : S) → Codes (part i s) (Good s) bytes (log i s) (events i s) (next s) → ((x : X) → Eaches n (suc i) (next s x)) → Codes (λ at k. each part (suc n) i s at k) (λ (z : X × List X). Good s (z .0) × ((length (z .1) ≡ n) × Goods (next s (z .0)) (z .1))) (λ z. bytes (z .0) ++ flat bytes (z .1)) (λ at z. log i s at (z .0) ++ logs (suc i) (next s (z .0)) (at + length (bytes (z .0))) (z .1)) (λ at z. events i s at (z .0) ++ tells (suc i) (next s (z .0)) (at + length (bytes (z .0))) (z .1)) (λ z. nexts (next s (z .0)) (z .1))
+  ahead : (n i : ℕ) (s : S) → Codes (part i s) (Good s) bytes (log i s) (events i s) fields (sites s) (next s) → ((x : X) → Eaches n (suc i) (next s x)) → Codes (λ at k. each part (suc n) i s at k) (λ (z : X × List X). Good s (z .0) × ((length (z .1) ≡ n) × Goods (next s (z .0)) (z .1))) (λ z. bytes (z .0) ++ flat bytes (z .1)) (λ at z. log i s at (z .0) ++ logs (suc i) (next s (z .0)) (at + length (bytes (z .0))) (z .1)) (λ at z. events i s at (z .0) ++ tells (suc i) (next s (z .0)) (at + length (bytes (z .0))) (z .1)) (λ at z. fields at (z .0) ++ fieldsEach bytes fields (at + length (bytes (z .0))) (z .1)) (λ at z. sites s at (z .0) ++ sitesAll bytes sites next (next s (z .0)) (at + length (bytes (z .0))) (z .1)) (λ z. nexts (next s (z .0)) (z .1))
   unfolding each
   ahead n i s p q = then {Q = λ at s′ at′ k. each part n (suc i) s′ at′ k} p (λ at x g. q x)
 
-  one-more : (n i : ℕ) (s : S) → Codes (part i s) (Good s) bytes (log i s) (events i s) (next s) → ((x : X) → Eaches n (suc i) (next s x)) → Eaches (suc n) i s
-  unfolding flat
+  one-more : (n i : ℕ) (s : S) → Codes (part i s) (Good s) bytes (log i s) (events i s) fields (sites s) (next s) → ((x : X) → Eaches n (suc i) (next s x)) → Eaches (suc n) i s
+  unfolding flat fieldsEach
   one-more n i s p q =
       record {
         forth = forth-one;
@@ -302,8 +442,18 @@ module _ {X S : Type 0} (part : ℕ → S → Part S) (Good : S → X → Type 0
             let u = ahead n i s p q .back at k xs a bs h f in
             record { held = u .held .0 ∷ u .held .1; rest = u .rest; good = (ap suc (u .good .1 .0), (u .good .0, u .good .1 .1)); same = u .same; ends = u .ends; goes = u .goes };
         traced = traced-one;
+        judged = judged-one;
+        reach = reach-one;
       }
     where
+      reach-one : (xs : List X) → (length xs ≡ suc n) × Goods s xs → length (flat bytes xs) < 2 ^ 64 → (at : ℕ) (k : S → ℕ → Layout Head) → Every (Comes (each part (suc n) i s at k) (flat bytes xs) at) (sitesAll bytes sites next s at xs)
+      reach-one [] g = absurd (omega (arith, g .0))
+      reach-one (x ∷ xs) g = ahead n i s p q .reach (x, xs) (g .1 .0, (omega (arith, g .0), g .1 .1))
+
+      judged-one : (xs : List X) → (length xs ≡ suc n) × Goods s xs → length (flat bytes xs) < 2 ^ 64 → (at : ℕ) (k : S → ℕ → Layout Head) (ys : List ℕ) → settled at (run (each part (suc n) i s at k) (flat bytes xs ++ ys)) ≡ limited (fieldsEach bytes fields at xs) (settled (at + length (flat bytes xs)) (run (k (nexts s xs) (at + length (flat bytes xs))) ys))
+      judged-one [] g = absurd (omega (arith, g .0))
+      judged-one (x ∷ xs) g = ahead n i s p q .judged (x, xs) (g .1 .0, (omega (arith, g .0), g .1 .1))
+
       traced-one : (xs : List X) → (length xs ≡ suc n) × Goods s xs → (at : ℕ) (k : S → ℕ → Layout Head) (ys : List ℕ) → at + length (flat bytes xs) ≤ limit → trace (each part (suc n) i s at k) (flat bytes xs ++ ys) ≡ tells i s at xs ++ trace (k (nexts s xs) (at + length (flat bytes xs))) ys
       traced-one [] g = absurd (omega (arith, g .0))
       traced-one (x ∷ xs) g = ahead n i s p q .traced (x, xs) (g .1 .0, (omega (arith, g .0), g .1 .1))
@@ -312,7 +462,7 @@ module _ {X S : Type 0} (part : ℕ → S → Part S) (Good : S → X → Type 0
       forth-one [] g = absurd (omega (arith, g .0))
       forth-one (x ∷ xs) g = ahead n i s p q .forth (x, xs) (g .1 .0, (omega (arith, g .0), g .1 .1))
 
-  pub each-codes : ((i : ℕ) (s : S) → Codes (part i s) (Good s) bytes (log i s) (events i s) (next s)) → (n i : ℕ) (s : S) → Codes (λ at k. each part n i s at k) (λ xs. (length xs ≡ n) × GoodEach part Good bytes log next s xs) (flat bytes) (logEach part Good bytes log next i s) (eventsEach bytes events next i s) (nextEach part Good bytes log next s)
+  pub each-codes : ((i : ℕ) (s : S) → Codes (part i s) (Good s) bytes (log i s) (events i s) fields (sites s) (next s)) → (n i : ℕ) (s : S) → Codes (λ at k. each part n i s at k) (λ xs. (length xs ≡ n) × GoodEach part Good bytes log next s xs) (flat bytes) (logEach part Good bytes log next i s) (eventsEach bytes events next i s) (fieldsEach bytes fields) (sitesAll bytes sites next s) (nextEach part Good bytes log next s)
   each-codes p zero i s = no-each i s
   each-codes p (suc n) i s = one-more n i s (p i s) (λ x. each-codes p n (suc i) (next s x))
 
@@ -327,7 +477,12 @@ module _ {X : Type 0} (bytes : X → List ℕ) (events : ℕ → ℕ → X → L
   eventsAll i at [] = []
   eventsAll i at (x ∷ xs) = events i at x ++ eventsAll (suc i) (at + length (bytes x)) xs
 
-module _ {X : Type 0} (part : ℕ → ℕ → (ℕ → Layout Head) → Layout Head) (Good : X → Type 0) (bytes : X → List ℕ) (log : ℕ → ℕ → X → List Entry) (events : ℕ → ℕ → X → List Event) where
+module _ {X : Type 0} (part : ℕ → ℕ → (ℕ → Layout Head) → Layout Head) (Good : X → Type 0) (bytes : X → List ℕ) (log : ℕ → ℕ → X → List Entry) (events : ℕ → ℕ → X → List Event) (fields : ℕ → X → List Field) (sites : ℕ → X → List Site) where
+  sites-all : (at : ℕ) (xs : List X) → sitesEach bytes sites at xs ≡ sitesAll {S = Unit {0}} bytes (λ s. sites) (λ s x. s) tt at xs
+  unfolding sitesEach
+  sites-all at [] = refl
+  sites-all at (x ∷ xs) = ap (λ (ss : List Site). sites at x ++ ss) (sites-all (at + length (bytes x)) xs)
+
   abbrev GoodOnes : List X → Type 0
   GoodOnes xs = GoodEach {S = Unit {0}} (λ i s at k. part i at (k s)) (λ s. Good) bytes (λ i s. log i) (λ s x. s) tt xs
 
@@ -347,29 +502,33 @@ module _ {X : Type 0} (part : ℕ → ℕ → (ℕ → Layout Head) → Layout H
   events-all i at [] = refl
   events-all i at (x ∷ xs) = ap (λ (es : List Event). events i at x ++ es) (events-all (suc i) (at + length (bytes x)) xs)
 
-  pub all-codes : ((i : ℕ) → Codes (λ at (k : Unit {0} → ℕ → Layout Head). part i at (k tt)) Good bytes (log i) (events i) (λ x. tt)) → (n i : ℕ) → Codes (λ at (k : Unit {0} → ℕ → Layout Head). each (alone part) n i tt at k) (λ xs. (length xs ≡ n) × Every Good xs) (flat bytes) (logAll part Good bytes log i) (eventsAll bytes events i) (λ xs. tt)
+  pub all-codes : ((i : ℕ) → Codes (λ at (k : Unit {0} → ℕ → Layout Head). part i at (k tt)) Good bytes (log i) (events i) fields sites (λ x. tt)) → (n i : ℕ) → Codes (λ at (k : Unit {0} → ℕ → Layout Head). each (alone part) n i tt at k) (λ xs. (length xs ≡ n) × Every Good xs) (flat bytes) (logAll part Good bytes log i) (eventsAll bytes events i) (fieldsEach bytes fields) (sitesEach bytes sites) (λ xs. tt)
   all-codes p n i =
       seen-as (λ xs. xs)
       (λ xs g h. (g .0, every-one xs (g .1)))
       (λ xs g. refl)
       (λ at xs g. log-all i at xs)
       (λ at xs g. events-all i at xs)
+      (λ at xs g. refl)
+      (λ at xs g. sites-all at xs)
       (λ xs g. refl)
       (λ xs g. (xs, (g .0, one-every xs (g .1)), refl))
-      (each-codes {S = Unit {0}} (λ i s at k. part i at (k s)) (λ s. Good) bytes (λ i s. log i) (λ i s. events i) (λ s x. s) (λ i s. p i) n i tt)
+      (each-codes {S = Unit {0}} (λ i s at k. part i at (k s)) (λ s. Good) bytes (λ i s. log i) (λ i s. events i) fields (λ s. sites) (λ s x. s) (λ i s. p i) n i tt)
 
 -- A count, then so many.
-pub list-codes : {X : Type 0} {P : Part ℕ} {GoodCount : ℕ → Type 0} {logCount : ℕ → ℕ → List Entry} {eventsCount : ℕ → ℕ → List Event} (part : ℕ → ℕ → (ℕ → Layout Head) → Layout Head) (Good : X → Type 0) (bytes : X → List ℕ) (log : ℕ → ℕ → X → List Entry) (events : ℕ → ℕ → X → List Event) (first : ℕ) → Codes P GoodCount compactBytes logCount eventsCount (λ n. n) → ((i : ℕ) → Codes (λ at (k : Unit {0} → ℕ → Layout Head). part i at (k tt)) Good bytes (log i) (events i) (λ x. tt)) → Codes (λ at (k : ℕ → ℕ → Layout Head). P at (λ n at′. each (alone part) n first tt at′ (λ s. k n))) (λ xs. GoodCount (length xs) × Every Good xs) (listBytes bytes) (λ at xs. logCount at (length xs) ++ logAll part Good bytes log first (at + length (compactBytes (length xs))) xs) (λ at xs. eventsCount at (length xs) ++ eventsAll bytes events first (at + length (compactBytes (length xs))) xs) (λ xs. length xs)
+pub list-codes : {X : Type 0} {P : Part ℕ} {GoodCount : ℕ → Type 0} {logCount : ℕ → ℕ → List Entry} {eventsCount : ℕ → ℕ → List Event} {fieldsCount : ℕ → ℕ → List Field} {sitesCount : ℕ → ℕ → List Site} (part : ℕ → ℕ → (ℕ → Layout Head) → Layout Head) (Good : X → Type 0) (bytes : X → List ℕ) (log : ℕ → ℕ → X → List Entry) (events : ℕ → ℕ → X → List Event) (fields : ℕ → X → List Field) (sites : ℕ → X → List Site) (first : ℕ) → Codes P GoodCount compactBytes logCount eventsCount fieldsCount sitesCount (λ n. n) → ((i : ℕ) → Codes (λ at (k : Unit {0} → ℕ → Layout Head). part i at (k tt)) Good bytes (log i) (events i) fields sites (λ x. tt)) → Codes (λ at (k : ℕ → ℕ → Layout Head). P at (λ n at′. each (alone part) n first tt at′ (λ s. k n))) (λ xs. GoodCount (length xs) × Every Good xs) (listBytes bytes) (λ at xs. logCount at (length xs) ++ logAll part Good bytes log first (at + length (compactBytes (length xs))) xs) (λ at xs. eventsCount at (length xs) ++ eventsAll bytes events first (at + length (compactBytes (length xs))) xs) (λ at xs. fieldsCount at (length xs) ++ fieldsEach bytes fields (at + length (compactBytes (length xs))) xs) (λ at xs. sitesCount at (length xs) ++ sitesEach bytes sites (at + length (compactBytes (length xs))) xs) (λ xs. length xs)
 unfolding listBytes
-list-codes {GoodCount = GoodCount} part Good bytes log events first c p =
+list-codes {GoodCount = GoodCount} part Good bytes log events fields sites first c p =
     seen-as (λ xs. (length xs, xs))
     (λ xs g h. (g .0, (refl, g .1)))
     (λ xs g. refl)
     (λ at xs g. refl)
     (λ at xs g. refl)
+    (λ at xs g. refl)
+    (λ at xs g. refl)
     (λ xs g. refl)
     (λ x g. (x .1, (subst GoodCount (sym (g .1 .0)) (g .0), g .1 .1), ap (λ (n : ℕ). (n, x .1)) (g .1 .0)))
-    (then {Q = λ at n at′ k. each (alone part) n first tt at′ (λ s. k n)} c (λ at n g. handing (λ s. n) (all-codes part Good bytes log events p n first)))
+    (then {Q = λ at n at′ k. each (alone part) n first tt at′ (λ s. k n)} c (λ at n g. handing (λ s. n) (all-codes part Good bytes log events fields sites p n first)))
 
 -- ---- fields
 
@@ -384,11 +543,23 @@ within-back place end l xs a f =
     (λ e. (leb-true end limit e, subst (λ (b : Bool). Finishes (cond b l (refuse 2 place)) xs a) e f))
     (λ e. absurd (refused-not-finished (subst (λ (b : Bool). Finishes (cond b l (refuse 2 place)) xs a) e f)))
 
+pub within-judged : (place at end : ℕ) (l : Layout Head) (xs : List ℕ) (z : Answer Head × ℕ) → (end ≤ limit → settled at (run l xs) ≡ z) → settled at (run (within place end l) xs) ≡ limited (field place at end ∷ []) z
+unfolding within run limited
+within-judged place at end l xs z goes =
+    by-cases (leb end limit)
+    (λ e. rw e (goes (leb-true end limit e)))
+    (λ e. rw e (ap (λ (n : ℕ). (refused 2 place, n)) (add-zero at)))
+
 -- the first w bytes, and what follows
 pub field-run : (w : ℕ) (f : List ℕ → Layout Head) (bs ys : List ℕ) → length bs ≡ w → fieldRun w (bs ++ ys) (run (f (take w (bs ++ ys))) (drop w (bs ++ ys))) ≡ behind w (run (f bs) ys)
 field-run w f bs ys e =
     field-there w (bs ++ ys) _ (omega (arith, length-append bs ys))
     ∙ ap₂ (λ (b c : List ℕ). behind w (run (f b) c)) (take-at bs ys w e) (drop-at bs ys w e)
+
+pub field-judged : (at w : ℕ) (f : List ℕ → Layout Head) (bs ys : List ℕ) → length bs ≡ w → settled at (fieldRun w (bs ++ ys) (run (f (take w (bs ++ ys))) (drop w (bs ++ ys)))) ≡ settled (at + w) (run (f bs) ys)
+field-judged at w f bs ys e =
+    let r = run (f bs) ys in
+    ap (settled at) (field-run w f bs ys e) ∙ ap (λ (n : ℕ). (r .answer, n)) (sym (add-assoc at w (r .taken)))
 
 pub field-back : (w : ℕ) (xs : List ℕ) (r : Reading Head) (a : Head) → fieldRun w xs r .answer ≡ finished a → (w ≤ length xs) × (r .answer ≡ finished a)
 field-back w xs r a = field-case (λ (s : Reading Head). s .answer ≡ finished a → (w ≤ length xs) × (r .answer ≡ finished a)) w xs r (λ h e. (h, e)) (λ h e. absurd (finished-not-more (sym e)))
@@ -398,7 +569,7 @@ field-traced hid w f bs ys e =
     trace-there hid w (bs ++ ys) _ (omega (arith, length-append bs ys))
     ∙ ap₂ (λ (b c : List ℕ). met hid b ++ trace (f b) c) (take-at bs ys w e) (drop-at bs ys w e)
 
-pub number-codes : (start : ℕ → ℕ) (o : Order) (w : ℕ) → Codes (λ at k. furtherAt (start at) at o w k) (λ v. v < 256 ^ w) (bytesOf o w) (λ at v. []) (λ at v. looked (bytesOf o w v)) (λ v. v)
+pub number-codes : (start : ℕ → ℕ) (o : Order) (w : ℕ) → Codes (λ at k. furtherAt (start at) at o w k) (λ v. v < 256 ^ w) (bytesOf o w) (λ at v. []) (λ at v. looked (bytesOf o w v)) (λ at v. field (start at) at (at + w) ∷ []) (λ at v. []) (λ v. v)
 unfolding furtherAt run trace
 number-codes start o w =
     record {
@@ -426,9 +597,14 @@ number-codes start o w =
           ap (λ (l : Layout Head). trace l (bytesOf o w v ++ ys)) (within-run (start at) (at + w) (number o w (λ v. k v (at + w))) (omega arith))
           ∙ field-traced false w (λ bs. k (value o bs) (at + w)) (bytesOf o w v) ys long
           ∙ ap₂ (λ (u n : ℕ). looked (bytesOf o w v) ++ trace (k u (at + n)) ys) (value-bytes o w v g) (sym long);
+      judged = λ v g small at k ys.
+          let long = length-bytes o w v in
+          within-judged (start at) at (at + w) (number o w (λ v. k v (at + w))) (bytesOf o w v ++ ys) _
+          (λ h. field-judged at w (λ bs. k (value o bs) (at + w)) (bytesOf o w v) ys long ∙ ap₂ (λ (u n : ℕ). settled (at + n) (run (k u (at + n)) ys)) (value-bytes o w v g) (sym long));
+      reach = λ v g small at k. tt;
     }
 
-pub opaque-codes : (h : Hidden) (w : ℕ) → Codes (λ at (k : Unit {0} → ℕ → Layout Head). opaqueAt at h w (k tt)) (Fixed w) (λ bs. bs) (λ at bs. []) (λ at bs. passed bs) (λ bs. tt)
+pub opaque-codes : (h : Hidden) (w : ℕ) → Codes (λ at (k : Unit {0} → ℕ → Layout Head). opaqueAt at h w (k tt)) (Fixed w) (λ bs. bs) (λ at bs. []) (λ at bs. passed bs) (λ at bs. fixed at w) (λ at bs. []) (λ bs. tt)
 unfolding opaqueAt run trace
 opaque-codes hid w =
     record {
@@ -452,4 +628,8 @@ opaque-codes hid w =
           ap (λ (l : Layout Head). trace l (bs ++ ys)) (within-run at (at + w) (opaque hid w (k tt (at + w))) (omega (arith, g .long)))
           ∙ field-traced true w (λ _. k tt (at + w)) bs ys (g .long)
           ∙ ap (λ (n : ℕ). passed bs ++ trace (k tt (at + n)) ys) (sym (g .long));
+      judged = λ bs g small at k ys.
+          within-judged at at (at + w) (opaque hid w (k tt (at + w))) (bs ++ ys) _
+          (λ h. field-judged at w (λ _. k tt (at + w)) bs ys (g .long) ∙ ap (λ (n : ℕ). settled (at + n) (run (k tt (at + n)) ys)) (sym (g .long)));
+      reach = λ bs g small at k. tt;
     }

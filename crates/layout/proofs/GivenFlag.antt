@@ -12,6 +12,8 @@ use Rattle.layout.specs.Number.{little, bytesOf}
 use Rattle.layout.specs.Layout.{Layout, refuse, accept, Reading, reading, refused, Entry, run}
 use Rattle.layout.specs.Transaction.{Head, Room, limit, furtherAt, numberAt, countAt, each, alone, Seen, seen, inputAt, outputAt, inputWitnessAt, outputWitnessAt, transaction}
 use Rattle.layout.specs.Contents.{Input, Output, InputWitness, OutputWitness, listBytes, inputBytes, outputBytes, flat, inputWitnessBytes, outputWitnessBytes, Every, InputAllowed, OutputAllowed, InputWitnessAllowed, OutputWitnessAllowed, inputEmpty, outputEmpty, all}
+use Rattle.layout.specs.Fields.{inputFields, outputFields, inputWitnessFields, outputWitnessFields}
+use Rattle.layout.specs.Sites.{inputSites, outputSites, inputWitnessSites, outputWitnessSites}
 use Rattle.layout.specs.Records.{itemsOf, sum}
 use Rattle.layout.proofs.Codes.{Part, after, then, handing, list-codes, number-codes, each-codes}
 use Rattle.layout.proofs.Parts.{count-codes, inputLog, inputEvents, input-codes, outputLog, outputEvents, output-codes, list-some, Stacks, witnessSeen, inputWitnessLog, inputWitnessEvents, inputWitness-codes, outputSeen, outputWitnessLog, outputWitnessEvents, outputWitness-codes}
@@ -82,9 +84,9 @@ module _ (room : Room) where
       then {Q = λ _ flag at₂ k. countAt at₂ (room .inputs) λ ins at₃. each (alone inputAt) ins 0 tt at₃ λ _ at₄. countAt at₄ (room .outputs) λ outs at₅. each (alone outputAt) outs 0 tt at₅ λ _ at₆. numberAt at₆ little 4 λ locktime. k (headSo version flag ins outs locktime)}
       (number-codes (λ at. at) little 1) λ _ flag _.
       then {Q = λ _ ins at₄ k. countAt at₄ (room .outputs) λ outs at₅. each (alone outputAt) outs 0 tt at₅ λ _ at₆. numberAt at₆ little 4 λ locktime. k (headSo version flag ins outs locktime)}
-      (list-codes inputAt InputAllowed inputBytes inputLog inputEvents 0 (count-codes (room .inputs)) input-codes) λ _ ins _.
+      (list-codes inputAt InputAllowed inputBytes inputLog inputEvents inputFields inputSites 0 (count-codes (room .inputs)) input-codes) λ _ ins _.
       then {Q = λ _ outs at₆ k. numberAt at₆ little 4 λ locktime. k (headSo version flag (length ins) outs locktime)}
-      (list-codes outputAt OutputAllowed outputBytes outputLog outputEvents 0 (count-codes (room .outputs)) output-codes) λ _ outs _.
+      (list-codes outputAt OutputAllowed outputBytes outputLog outputEvents outputFields outputSites 0 (count-codes (room .outputs)) output-codes) λ _ outs _.
       handing (λ locktime. headSo version flag (length ins) (length outs) locktime) (number-codes (λ at. at) little 4) in
       let e = ap (λ (l : Layout Head). run l (frontBytes x ++ ys)) front-transaction
       ∙ front-codes .forth (x .version, (x .flag, (x .inputs, (x .outputs, x .locktime))))
@@ -124,8 +126,8 @@ module _ (room : Room) where
       let judge : Seen → ℕ → Layout Head = λ s₂ at₉. cond (s₂ .empty) (refuse 8 4) (accept (record { version = x .version; flag = x .flag; inputs = ins; outputs = outs; items = s₂ .items; locktime = x .locktime; bytes = at₉ })) in
       let witness-codes =
       then {Q = λ _ s₁ at₁ k. each outputWitnessAt outs 0 s₁ at₁ k}
-      (each-codes (inputWitnessAt (room .items)) (Stacks (room .items)) inputWitnessBytes (λ i s. inputWitnessLog i (s .items)) (λ i s. inputWitnessEvents i (s .items)) witnessSeen (inputWitness-codes (room .items)) ins 0 (seen 0 true)) λ _ us _.
-      each-codes outputWitnessAt (λ s. OutputWitnessAllowed) outputWitnessBytes (λ i s. outputWitnessLog i) (λ i s. outputWitnessEvents i) outputSeen outputWitness-codes outs 0 (inputsSeen (room .items) (seen 0 true) us) in
+      (each-codes (inputWitnessAt (room .items)) (Stacks (room .items)) inputWitnessBytes (λ i s. inputWitnessLog i (s .items)) (λ i s. inputWitnessEvents i (s .items)) inputWitnessFields (λ s. inputWitnessSites (room .items) (s .items)) witnessSeen (inputWitness-codes (room .items)) ins 0 (seen 0 true)) λ _ us _.
+      each-codes outputWitnessAt (λ s. OutputWitnessAllowed) outputWitnessBytes (λ i s. outputWitnessLog i) (λ i s. outputWitnessEvents i) outputWitnessFields (λ s. outputWitnessSites) outputSeen outputWitness-codes outs 0 (inputsSeen (room .items) (seen 0 true) us) in
       let read = witness-codes .forth (ws, vs) ((w .inputs, stacks-fit (room .items) (seen 0 true) ws (omega (arith, w .items-fit)) (w .inputs-allowed)), (w .outputs, outputs-good (inputsSeen (room .items) (seen 0 true) ws) vs (w .outputs-allowed))) at judge ys h in
       let all-empty : outputsSeen (inputsSeen (room .items) (seen 0 true) ws) vs .empty ≡ true = ap (λ (s : Seen). s .empty) (last-seen (room .items) ins outs ws vs) ∙ w .all-empty in
       let is-1 : eqb (x .flag) 1 ≡ true = eq-eqb (x .flag) 1 one in

@@ -29,9 +29,8 @@ pub mod Sound
 pub mod Refused
 pub mod Given
 pub mod GivenFlag
+pub mod Limits
+pub mod Sited
 pub mod FlagLast
 pub mod Theorems
 pub mod Outlines
-pub mod Loads
-pub mod MomentLoads
-pub mod WritingLoads

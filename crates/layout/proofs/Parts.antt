@@ -14,12 +14,14 @@ use Rattle.layout.specs.Number.{Order, little, big, value, bytesOf, Byte
 use Rattle.layout.specs.Layout.{Layout, number, opaque, enter, refuse, accept, Answer, finished, more, refused, Reading, reading, behind, noted, Entry, Table, input, output, item, Hidden, txid, blindingNonce, entropy, assetPart, noncePart, commitmentPart, scriptBody, proofBody, itemBody, run}
 use Rattle.layout.specs.Transaction.{Head, Room, limit, entry, within, furtherAt, numberAt, opaqueAt, announced, least, compactAt, countAt, bodyAt, valueAt, prefixedAt, each, alone, allOnes, flagBit, vout, flags, assetPrefix, noncePrefix, Seen, seen, issuanceAt, inputAt, outputAt, itemAt, stackAt, inputWitnessAt, outputWitnessAt, transaction}
 use Rattle.layout.specs.Contents.{Value, null, explicit, commitment, Token, absent, present, Issuance, Input, Output, InputWitness, OutputWitness, Witnesses, Contents, compactBytes, flat, bodyBytes, listBytes, valueBytes, tokenBytes, issuanceBytes, rawVout, inputBytes, outputBytes, inputWitnessBytes, outputWitnessBytes, flagOf, witnessesBytes, contentsBytes, Every, Fixed, ValueAllowed, TokenAllowed, isNull, IssuanceAllowed, confused, Flagged, InputAllowed, OutputAllowed, InputWitnessAllowed, OutputWitnessAllowed, inputEmpty, outputEmpty, all, WitnessesAllowed, MaybeAllowed, Allowed}
+use Rattle.layout.specs.Fields.{Field, field, fixed, compactFields, bodyFields, valueFields, tokenFields, fieldsEach, listFields, issuanceFields, inputFields, outputFields, inputWitnessFields, outputWitnessFields, limited}
+use Rattle.layout.specs.Sites.{counts, lengths, values, assets, nonces, issuances, What, Site, site, bodySites, listSites, issuanceSites, inputSites, outputSites, inputWitnessSites, outputWitnessSites}
 use Rattle.layout.specs.Records.{valuePrefix, tokenPrefix, high, low}
 use Rattle.layout.proofs.Number.{length-bytes, bytes-bytes, value-bytes, bytes-value, bytes-take, bytes-drop, value-small}
 use Rattle.layout.proofs.Reading.{by-cases, refused-not-finished}
 use Rattle.layout.proofs.Trace.{Event, shown, enters, entering, looked, passed, trace}
 use Rattle.layout.proofs.Outpoint.{true-not-false, raw-small, raw-vout, raw-flags, raw-again, raw-apart, flags-three, issuing}
-use Rattle.layout.proofs.Codes.{Part, after, Finishes, Began, Codes, then, noting, passing, failing, seen-as, began-as, handing, all-codes, logAll, eventsAll, list-codes, if-true, if-false, empty-codes, refuse-codes, GoodEach, logEach, nextEach, each-codes, within-run, within-back, field-run, field-traced, field-back, number-codes, opaque-codes, bytes-behind}
+use Rattle.layout.proofs.Codes.{Part, after, Finishes, Began, Codes, Comes, Stand, standing, then, noting, passing, failing, seen-as, began-as, handing, all-codes, logAll, eventsAll, list-codes, if-true, if-false, empty-codes, refuse-codes, GoodEach, logEach, nextEach, each-codes, settled, limited-append, within-run, within-back, within-judged, field-run, field-traced, field-judged, field-back, number-codes, opaque-codes, bytes-behind}
 
 -- ---- counts and lengths
 
@@ -47,10 +49,10 @@ compact-form f n above byte at-least small =
 abbrev Furthered : ℕ → (ℕ → ℕ → Layout Head) → ℕ → ℕ → Layout Head
 Furthered at k first at′ = cond (leb first 252) (k first at′) (furtherAt at at′ little (announced first) λ n at″. cond (leb (least (announced first)) n) (k n at″) (refuse 3 at))
 
-first-codes : Codes (λ at k. numberAt at little 1 k) (λ v. v < 256 ^ 1) (bytesOf little 1) (λ at v. []) (λ at v. looked (bytesOf little 1 v)) (λ v. v)
+first-codes : Codes (λ at k. numberAt at little 1 k) (λ v. v < 256 ^ 1) (bytesOf little 1) (λ at v. []) (λ at v. looked (bytesOf little 1 v)) (λ at v. fixed at 1) (λ at v. []) (λ v. v)
 first-codes = number-codes (λ at. at) little 1
 
-further-codes : (start f : ℕ) → Codes (λ at k. furtherAt start at little (announced f) λ n at′. cond (leb (least (announced f)) n) (k n at′) (refuse 3 start)) (λ n. (n < 256 ^ announced f) × (leb (least (announced f)) n ≡ true)) (bytesOf little (announced f)) (λ at n. []) (λ at n. looked (bytesOf little (announced f) n)) (λ n. n)
+further-codes : (start f : ℕ) → Codes (λ at k. furtherAt start at little (announced f) λ n at′. cond (leb (least (announced f)) n) (k n at′) (refuse 3 start)) (λ n. (n < 256 ^ announced f) × (leb (least (announced f)) n ≡ true)) (bytesOf little (announced f)) (λ at n. []) (λ at n. looked (bytesOf little (announced f) n)) (λ at n. field start at (at + announced f) ∷ []) (λ at n. []) (λ n. n)
 further-codes start f = passing (λ n. leb (least (announced f)) n) 3 (λ at. start) (number-codes (λ at. start) little (announced f))
 
 short-forth : (n : ℕ) → n ≤ 252 → (at : ℕ) (k : ℕ → ℕ → Layout Head) (ys : List ℕ) → at + 1 ≤ limit → run (compactAt at k) ((n ∷ []) ++ ys) ≡ after 1 [] (run (k n (at + 1)) ys)
@@ -81,6 +83,9 @@ long-forth f n above byte at-least small at k ys e =
 pub short-form : (n : ℕ) → n ≤ 252 → compactBytes n ≡ n ∷ []
 unfolding compactBytes
 short-form n h = rw (le-leb n 252 h)
+
+announced-short : (f : ℕ) → announced f ≤ 8
+announced-short f = by-cases (eqb f 253) (λ e. rw e (omega arith)) (λ e. by-cases (eqb f 254) (λ e′. rw (e, e′) (omega arith)) (λ e′. rw (e, e′) (omega arith)))
 
 announced-fits : (f n : ℕ) → n < 256 ^ announced f → n < 2 ^ 64
 announced-fits f n h =
@@ -149,8 +154,44 @@ compact-traced n g at k ys =
     (λ f above byte at-least small.
     subst (λ (m : ℕ). at + suc m ≤ limit → trace (compactAt at k) ((f ∷ bytesOf little (announced f) n) ++ ys) ≡ looked (f ∷ bytesOf little (announced f) n) ++ trace (k n (at + suc m)) ys) (sym (length-bytes little (announced f) n)) (long-traced f n above byte at-least small at k ys))
 
-pub compact-codes : Codes (λ at k. compactAt at k) (λ n. n < 2 ^ 64) compactBytes (λ at n. []) (λ at n. looked (compactBytes n)) (λ n. n)
-unfolding compactAt Forth Traced
+-- and where it would end past the limit
+least-above : (w : ℕ) → 252 < least w
+least-above w = by-cases (eqb w 2) (λ e. rw e (lit< tt)) (λ e. by-cases (eqb w 4) (λ e′. rw (e, e′) (lit< tt)) (λ e′. rw (e, e′) (lit< tt)))
+
+Judged : ℕ → (ℕ → ℕ → Layout Head) → List ℕ → ℕ → List ℕ → Type 0
+Judged at k ys n bs = settled at (run (compactAt at k) (bs ++ ys)) ≡ limited (field at at (at + 1) ∷ cond (leb n 252) [] (field at (at + 1) (at + length bs) ∷ [])) (settled (at + length bs) (run (k n (at + length bs)) ys))
+
+short-judged : (n : ℕ) → n ≤ 252 → (at : ℕ) (k : ℕ → ℕ → Layout Head) (ys : List ℕ) → Judged at k ys n (n ∷ [])
+unfolding Judged compactAt
+short-judged n h at k ys =
+    let b = one-byte n (omega arith) in
+    let t = le-leb n 252 h in
+    ap (λ (l : List ℕ). settled at (run (compactAt at k) (l ++ ys))) (sym b)
+    ∙ first-codes .judged n (omega arith) (omega (arith, length-bytes little 1 n)) at (Furthered at k) ys
+    ∙ ap (λ (l : List ℕ). limited (fixed at 1) (settled (at + length l) (run (Furthered at k n (at + length l)) ys))) b
+    ∙ ap (λ (t : Bool). limited (fixed at 1) (settled (at + 1) (run (cond t (k n (at + 1)) (furtherAt at (at + 1) little (announced n) λ m at″. cond (leb (least (announced n)) m) (k m at″) (refuse 3 at))) ys))) t
+    ∙ ap (λ (t : Bool). limited (field at at (at + 1) ∷ cond t [] (field at (at + 1) (at + 1) ∷ [])) (settled (at + 1) (run (k n (at + 1)) ys))) (sym t)
+
+long-judged : (f n : ℕ) → 252 < f → f < 256 → least (announced f) ≤ n → n < 256 ^ announced f → (at : ℕ) (k : ℕ → ℕ → Layout Head) (ys : List ℕ) → Judged at k ys n (f ∷ bytesOf little (announced f) n)
+unfolding Judged compactAt limited
+long-judged f n above byte at-least small at k ys =
+    let b = one-byte f byte in
+    let w = announced f in
+    let bs = bytesOf little w n in
+    let long : length bs ≡ w = length-bytes little w n in
+    let e : at + 1 + length bs ≡ at + length (f ∷ bs) = omega arith in
+    let not-short : leb n 252 ≡ false = lt-leb n 252 (omega (arith, least-above w)) in
+    ap (λ (l : List ℕ). settled at (run (compactAt at k) (l ++ (bs ++ ys)))) (sym b)
+    ∙ first-codes .judged f (omega arith) (omega (arith, length-bytes little 1 f)) at (Furthered at k) (bs ++ ys)
+    ∙ ap (λ (l : List ℕ). limited (fixed at 1) (settled (at + length l) (run (Furthered at k f (at + length l)) (bs ++ ys)))) b
+    ∙ ap (λ (t : Bool). limited (fixed at 1) (settled (at + 1) (run (cond t (k f (at + 1)) (furtherAt at (at + 1) little w λ m at″. cond (leb (least w) m) (k m at″) (refuse 3 at))) (bs ++ ys)))) (lt-leb f 252 above)
+    ∙ ap (limited (fixed at 1)) (further-codes at f .judged n (small, le-leb (least w) n at-least) (omega (arith, announced-short f)) (at + 1) k ys)
+    ∙ ap (λ (m : ℕ). limited (fixed at 1) (limited (field at (at + 1) (at + 1 + m) ∷ []) (settled (at + 1 + length bs) (run (k n (at + 1 + length bs)) ys)))) (sym long)
+    ∙ ap (λ (m : ℕ). limited (fixed at 1) (limited (field at (at + 1) m ∷ []) (settled m (run (k n m) ys)))) e
+    ∙ ap (λ (t : Bool). limited (field at at (at + 1) ∷ cond t [] (field at (at + 1) (at + length (f ∷ bs)) ∷ [])) (settled (at + length (f ∷ bs)) (run (k n (at + length (f ∷ bs))) ys))) (sym not-short)
+
+pub compact-codes : Codes (λ at k. compactAt at k) (λ n. n < 2 ^ 64) compactBytes (λ at n. []) (λ at n. looked (compactBytes n)) compactFields (λ at n. []) (λ n. n)
+unfolding compactAt Forth Traced Judged
 compact-codes =
     record {
       forth = λ n g at k ys h. compact-forth n g at k ys h;
@@ -190,12 +231,14 @@ compact-codes =
             goes = subst (λ (l : List ℕ). Finishes (k n (at + length l)) (v .rest) a) (sym form) (subst (λ (m : ℕ). Finishes (k n m) (v .rest) a) long (v .goes));
           });
       traced = λ n g at k ys h. compact-traced n g at k ys h;
+      judged = λ n g small at k ys. forms (Judged at k ys n) n g (λ h. short-judged n h at k ys) (λ f above byte at-least small. long-judged f n above byte at-least small at k ys);
+      reach = λ n g small at k. tt;
     }
 
 -- Count: not above the records left.
-pub count-codes : (left : ℕ) → Codes (λ at k. countAt at left k) (λ n. (n < 2 ^ 64) × (leb n left ≡ true)) compactBytes (λ at n. []) (λ at n. looked (compactBytes n)) (λ n. n)
+pub count-codes : (left : ℕ) → Codes (λ at k. countAt at left k) (λ n. (n < 2 ^ 64) × (leb n left ≡ true)) compactBytes (λ at n. []) (λ at n. looked (compactBytes n)) compactFields (λ at n. site at (counts left) ∷ []) (λ n. n)
 unfolding countAt
-count-codes left = passing (λ n. leb n left) 4 (λ at. at) compact-codes
+count-codes left = standing (counts left) (λ at k. (k, refl)) (passing (λ n. leb n left) 4 (λ at. at) compact-codes)
 
 -- ---- bodies
 
@@ -206,10 +249,10 @@ bodyLog note at xs = note (at + length (compactBytes (length xs))) (length xs) �
 abbrev pub bodyEvents : (ℕ → ℕ → Entry) → ℕ → List ℕ → List Event
 bodyEvents note at xs = looked (compactBytes (length xs)) ++ (enters (note (at + length (compactBytes (length xs))) (length xs)) ∷ passed xs)
 
-pub body-codes : (h : Hidden) (note : ℕ → ℕ → Entry) → Codes (λ at k. bodyAt at h note k) Bytes bodyBytes (bodyLog note) (bodyEvents note) (λ xs. length xs)
+pub body-codes : (h : Hidden) (note : ℕ → ℕ → Entry) → Codes (λ at k. bodyAt at h note k) Bytes bodyBytes (bodyLog note) (bodyEvents note) bodyFields bodySites (λ xs. length xs)
 unfolding bodyAt bodyBytes run trace
 body-codes hid note =
-    record {
+    standing lengths (λ at k. (hid, note, k, refl)) (record {
       forth = λ xs g at k ys h.
           let n = length xs in
           let c = compactBytes n in
@@ -255,11 +298,24 @@ body-codes hid note =
           ∙ ap (λ (t : List Event). looked c ++ (enters (note (at + length c) n) ∷ t)) (field-traced true n (λ _. k n (at + length c + n)) xs ys refl)
           ∙ sym (append-assoc (looked c) (enters (note (at + length c) n) ∷ passed xs) (trace (k n (at + length c + n)) ys))
           ∙ ap (λ (m : ℕ). bodyEvents note at xs ++ trace (k n m) ys) e;
-    }
+      judged = λ xs g small at k ys.
+          let n = length xs in
+          let c = compactBytes n in
+          let both : length (c ++ xs) ≡ length c + n = length-append c xs in
+          let go : ℕ → ℕ → Layout Head = λ n at′. within at (at′ + n) (enter (note at′ n) (opaque hid n (k n (at′ + n)))) in
+          let at′ = at + length c in
+          let e : at′ + n ≡ at + length (c ++ xs) = omega arith in
+          ap (λ (l : List ℕ). settled at (run (compactAt at go) l)) (append-assoc c xs ys)
+          ∙ compact-codes .judged n (omega arith) (omega arith) at go (xs ++ ys)
+          ∙ ap (limited (compactFields at n)) (within-judged at at′ (at′ + n) (enter (note at′ n) (opaque hid n (k n (at′ + n)))) (xs ++ ys) _ (λ h. field-judged at′ n (λ _. k n (at′ + n)) xs ys refl))
+          ∙ sym (limited-append (compactFields at n) (field at at′ (at′ + n) ∷ []) (settled (at′ + n) (run (k n (at′ + n)) ys)))
+          ∙ ap (λ (m : ℕ). limited (bodyFields at xs) (settled m (run (k n m) ys))) e;
+      reach = λ xs g small at k. tt;
+    })
 
 -- ---- prefixes and what stands behind them
 
-prefix-codes : (note : ℕ → ℕ → Entry) → Codes (λ at k. numberAt at little 1 λ p at′. enter (note p at) (k p at′)) (λ p. p < 256 ^ 1) (bytesOf little 1) (λ at p. note p at ∷ []) (λ at p. entering (looked (bytesOf little 1 p)) (note p at)) (λ p. p)
+prefix-codes : (note : ℕ → ℕ → Entry) → Codes (λ at k. numberAt at little 1 λ p at′. enter (note p at) (k p at′)) (λ p. p < 256 ^ 1) (bytesOf little 1) (λ at p. note p at ∷ []) (λ at p. entering (looked (bytesOf little 1 p)) (note p at)) (λ at p. fixed at 1) (λ at p. []) (λ p. p)
 prefix-codes note = noting (λ at p. note p at) first-codes
 
 -- what is listed is none of what isn't
@@ -288,6 +344,11 @@ amountEvents amount null = []
 amountEvents amount (explicit v) = entering (looked (bytesOf big 8 v)) (amount (v / 2 ^ 32) (v % 2 ^ 32))
 amountEvents amount (commitment p part) = passed part
 
+abbrev tailFields : ℕ → Value → List Field
+tailFields at null = []
+tailFields at (explicit v) = fixed at 8
+tailFields at (commitment p part) = fixed at 32
+
 abbrev valueTail : (ℕ → ℕ → Entry) → ℕ → ℕ → Part ℕ
 valueTail amount place p at k =
     cond (eqb p 0) (k p at)
@@ -304,19 +365,19 @@ module _ (amount : ℕ → ℕ → Entry) (place p : ℕ) where
   abbrev lastTail : Part ℕ
   lastTail at k = cond (commitmentPrefix p) (partTail at k) (refuse 5 place)
 
-  null-tail : eqb p 0 ≡ true → Codes (valueTail amount place p) (λ (x : Unit {0}). Unit {0}) (λ x. []) (λ at x. []) (λ at x. []) (λ x. p)
+  null-tail : eqb p 0 ≡ true → Codes (valueTail amount place p) (λ (x : Unit {0}). Unit {0}) (λ x. []) (λ at x. []) (λ at x. []) (λ at x. []) (λ at x. []) (λ x. p)
   null-tail e = if-true (eqb p 0) (λ at k. k p at) (λ at k. cond (eqb p 1) (explicitTail at k) (lastTail at k)) e (empty-codes p)
 
-  other-tail : {X : Type 0} {Good : X → Type 0} {bytes : X → List ℕ} {log : ℕ → X → List Entry} {events : ℕ → X → List Event} {out : X → ℕ} → eqb p 0 ≡ false → Codes (λ at k. cond (eqb p 1) (explicitTail at k) (lastTail at k)) Good bytes log events out → Codes (valueTail amount place p) Good bytes log events out
+  other-tail : {X : Type 0} {Good : X → Type 0} {bytes : X → List ℕ} {log : ℕ → X → List Entry} {events : ℕ → X → List Event} {fields : ℕ → X → List Field} {sites : ℕ → X → List Site} {out : X → ℕ} → eqb p 0 ≡ false → Codes (λ at k. cond (eqb p 1) (explicitTail at k) (lastTail at k)) Good bytes log events fields sites out → Codes (valueTail amount place p) Good bytes log events fields sites out
   other-tail e c = if-false (eqb p 0) (λ at k. k p at) (λ at k. cond (eqb p 1) (explicitTail at k) (lastTail at k)) e c
 
-  explicit-tail : eqb p 0 ≡ false → eqb p 1 ≡ true → Codes (valueTail amount place p) (λ v. v < 256 ^ 8) (bytesOf big 8) (λ at v. amount (v / 2 ^ 32) (v % 2 ^ 32) ∷ []) (λ at v. entering (looked (bytesOf big 8 v)) (amount (v / 2 ^ 32) (v % 2 ^ 32))) (λ x. p)
+  explicit-tail : eqb p 0 ≡ false → eqb p 1 ≡ true → Codes (valueTail amount place p) (λ v. v < 256 ^ 8) (bytesOf big 8) (λ at v. amount (v / 2 ^ 32) (v % 2 ^ 32) ∷ []) (λ at v. entering (looked (bytesOf big 8 v)) (amount (v / 2 ^ 32) (v % 2 ^ 32))) (λ at v. fixed at 8) (λ at v. []) (λ x. p)
   explicit-tail e₀ e₁ = other-tail e₀ (if-true (eqb p 1) explicitTail lastTail e₁ (handing (λ s. p) (noting (λ at v. amount (v / 2 ^ 32) (v % 2 ^ 32)) (number-codes (λ at. at) big 8))))
 
-  part-tail : eqb p 0 ≡ false → eqb p 1 ≡ false → commitmentPrefix p ≡ true → Codes (valueTail amount place p) (Fixed 32) (λ b. b) (λ at b. []) (λ at b. passed b) (λ b. p)
+  part-tail : eqb p 0 ≡ false → eqb p 1 ≡ false → commitmentPrefix p ≡ true → Codes (valueTail amount place p) (Fixed 32) (λ b. b) (λ at b. []) (λ at b. passed b) (λ at b. fixed at 32) (λ at b. []) (λ b. p)
   part-tail e₀ e₁ e₂ = other-tail e₀ (if-false (eqb p 1) explicitTail lastTail e₁ (if-true (commitmentPrefix p) partTail (λ at k. refuse 5 place) e₂ (handing (λ s. p) (opaque-codes commitmentPart 32))))
 
-  no-tail : eqb p 0 ≡ false → eqb p 1 ≡ false → commitmentPrefix p ≡ false → Codes (valueTail amount place p) (λ (x : Unit {0}). ⊥) (λ x. []) (λ at x. []) (λ at x. []) (λ x. p)
+  no-tail : eqb p 0 ≡ false → eqb p 1 ≡ false → commitmentPrefix p ≡ false → Codes (valueTail amount place p) (λ (x : Unit {0}). ⊥) (λ x. []) (λ at x. []) (λ at x. []) (λ at x. []) (λ at x. []) (λ x. p)
   no-tail e₀ e₁ e₂ = other-tail e₀ (if-false (eqb p 1) explicitTail lastTail e₁ (if-false (commitmentPrefix p) partTail (λ at k. refuse 5 place) e₂ (refuse-codes 5 place (λ x g. g))))
 
   -- a value of this prefix
@@ -343,12 +404,19 @@ tail-traced amount place null g = null-tail amount place 0 refl .traced tt tt
 tail-traced amount place (explicit v) g = explicit-tail amount place 1 refl refl .traced v g
 tail-traced amount place (commitment p part) g = part-tail amount place p (listed-other commitmentPrefix p 0 (g .0) refl) (listed-other commitmentPrefix p 1 (g .0) refl) (g .0) .traced part (g .1)
 
-tail-codes : (amount : ℕ → ℕ → Entry) (place p : ℕ) → Codes (valueTail amount place p) (Behind amount place p) tailBytes (λ at v. amountLog amount v) (λ at v. amountEvents amount v) (λ v. p)
+tail-judged : (amount : ℕ → ℕ → Entry) (place : ℕ) (v : Value) → ValueAllowed v → length (tailBytes v) < 2 ^ 64 → (at : ℕ) (k : ℕ → ℕ → Layout Head) (ys : List ℕ) → settled at (run (valueTail amount place (valuePrefix v) at k) (tailBytes v ++ ys)) ≡ limited (tailFields at v) (settled (at + length (tailBytes v)) (run (k (valuePrefix v) (at + length (tailBytes v))) ys))
+tail-judged amount place null g = null-tail amount place 0 refl .judged tt tt
+tail-judged amount place (explicit v) g = explicit-tail amount place 1 refl refl .judged v g
+tail-judged amount place (commitment p part) g = part-tail amount place p (listed-other commitmentPrefix p 0 (g .0) refl) (listed-other commitmentPrefix p 1 (g .0) refl) (g .0) .judged part (g .1)
+
+tail-codes : (amount : ℕ → ℕ → Entry) (place p : ℕ) → Codes (valueTail amount place p) (Behind amount place p) tailBytes (λ at v. amountLog amount v) (λ at v. amountEvents amount v) tailFields (λ at v. []) (λ v. p)
 tail-codes amount place p =
     record {
       forth = λ v g at k ys h. subst (λ (q : ℕ). run (valueTail amount place q at k) (tailBytes v ++ ys) ≡ after (length (tailBytes v)) (amountLog amount v) (run (k q (at + length (tailBytes v))) ys)) (g .0) (tail-forth amount place v (g .1) at k ys h);
       back = tail-back amount place p;
       traced = λ v g at k ys h. subst (λ (q : ℕ). trace (valueTail amount place q at k) (tailBytes v ++ ys) ≡ amountEvents amount v ++ trace (k q (at + length (tailBytes v))) ys) (g .0) (tail-traced amount place v (g .1) at k ys h);
+      judged = λ v g small at k ys. subst (λ (q : ℕ). settled at (run (valueTail amount place q at k) (tailBytes v ++ ys)) ≡ limited (tailFields at v) (settled (at + length (tailBytes v)) (run (k q (at + length (tailBytes v))) ys))) (g .0) (tail-judged amount place v (g .1) small at k ys);
+      reach = λ v g small at k. tt;
     }
 
 abbrev pub valueLog : (ℕ → ℕ → Entry) → (ℕ → ℕ → Entry) → ℕ → Value → List Entry
@@ -371,17 +439,25 @@ value-spelled null g = refl
 value-spelled (explicit v) g = refl
 value-spelled (commitment p part) g = ap (λ (l : List ℕ). l ++ part) (sym (one-byte p (prefix-small (commitment p part) g)))
 
-pub value-codes : (note amount : ℕ → ℕ → Entry) → Codes (λ at k. valueAt at note amount k) ValueAllowed valueBytes (valueLog note amount) (valueEvents note amount) valuePrefix
+value-fields : (at : ℕ) (v : Value) → valueFields at v ≡ fixed at 1 ++ tailFields (at + length (bytesOf little 1 (valuePrefix v))) v
+value-fields at null = refl
+value-fields at (explicit v) = ap (λ (n : ℕ). fixed at 1 ++ fixed (at + n) 8) (sym (length-bytes little 1 1))
+value-fields at (commitment p part) = ap (λ (n : ℕ). fixed at 1 ++ fixed (at + n) 32) (sym (length-bytes little 1 p))
+
+pub value-codes : (note amount : ℕ → ℕ → Entry) → Codes (λ at k. valueAt at note amount k) ValueAllowed valueBytes (valueLog note amount) (valueEvents note amount) valueFields (λ at v. site at values ∷ []) valuePrefix
 unfolding valueAt
 value-codes note amount =
-    seen-as (λ v. (valuePrefix v, v))
+    standing values (λ at k. (note, amount, k, refl))
+    (seen-as (λ v. (valuePrefix v, v))
     (λ v g h. (prefix-small v g, (refl, g)))
     value-spelled
     (λ at v g. refl)
     (λ at v g. ap (λ (l : List ℕ). looked l ++ (enters (note (valuePrefix v) at) ∷ amountEvents amount v)) (sym (one-byte (valuePrefix v) (prefix-small v g))) ∙ sym (append-snoc (looked (bytesOf little 1 (valuePrefix v))) (enters (note (valuePrefix v) at)) (amountEvents amount v)))
+    (λ at v g. value-fields at v)
+    (λ at v g. refl)
     (λ v g. refl)
     (λ x g. (x .1, g .1 .1, ap (λ (p : ℕ). (p, x .1)) (g .1 .0)))
-    (then {Q = λ at p. valueTail amount at p} (prefix-codes note) (λ at p g. tail-codes amount at p))
+    (then {Q = λ at p. valueTail amount at p} (prefix-codes note) (λ at p g. tail-codes amount at p)))
 
 -- Asset or nonce: what it lists are bytes, and 0 is none of them.
 pub record Listing (listed : ℕ → Bool) : Type 0 where
@@ -405,6 +481,14 @@ abbrev tokenTailBytes : Token → List ℕ
 tokenTailBytes absent = []
 tokenTailBytes (present p part) = part
 
+abbrev tokenTailFields : ℕ → Token → List Field
+tokenTailFields at absent = []
+tokenTailFields at (present p part) = fixed at 32
+
+token-fields : (at : ℕ) (t : Token) → tokenFields at t ≡ fixed at 1 ++ tokenTailFields (at + length (bytesOf little 1 (tokenPrefix t))) t
+token-fields at absent = refl
+token-fields at (present p part) = ap (λ (n : ℕ). fixed at 1 ++ fixed (at + n) 32) (sym (length-bytes little 1 p))
+
 abbrev pub tokenEvents : (ℕ → ℕ → Entry) → ℕ → Token → List Event
 tokenEvents note at t = shown (tokenPrefix t) ∷ enters (note (tokenPrefix t) at) ∷ passed (tokenTailBytes t)
 
@@ -418,13 +502,13 @@ module _ (hid : Hidden) (listed : ℕ → Bool) (place p : ℕ) where
   abbrev tokenTail : Part (Unit {0})
   tokenTail at k = cond (eqb p 0) (k tt at) (tokenRest at k)
 
-  absent-tail : eqb p 0 ≡ true → Codes tokenTail (λ (x : Unit {0}). Unit {0}) (λ x. []) (λ at x. []) (λ at x. []) (λ x. tt)
+  absent-tail : eqb p 0 ≡ true → Codes tokenTail (λ (x : Unit {0}). Unit {0}) (λ x. []) (λ at x. []) (λ at x. []) (λ at x. []) (λ at x. []) (λ x. tt)
   absent-tail e = if-true (eqb p 0) (λ at k. k tt at) tokenRest e (empty-codes tt)
 
-  present-tail : eqb p 0 ≡ false → listed p ≡ true → Codes tokenTail (Fixed 32) (λ b. b) (λ at b. []) (λ at b. passed b) (λ b. tt)
+  present-tail : eqb p 0 ≡ false → listed p ≡ true → Codes tokenTail (Fixed 32) (λ b. b) (λ at b. []) (λ at b. passed b) (λ at b. fixed at 32) (λ at b. []) (λ b. tt)
   present-tail e₀ e = if-false (eqb p 0) (λ at k. k tt at) tokenRest e₀ (if-true (listed p) tokenPart (λ at k. refuse 5 place) e (opaque-codes hid 32))
 
-  unlisted-tail : eqb p 0 ≡ false → listed p ≡ false → Codes tokenTail (λ (x : Unit {0}). ⊥) (λ x. []) (λ at x. []) (λ at x. []) (λ x. tt)
+  unlisted-tail : eqb p 0 ≡ false → listed p ≡ false → Codes tokenTail (λ (x : Unit {0}). ⊥) (λ x. []) (λ at x. []) (λ at x. []) (λ at x. []) (λ at x. []) (λ x. tt)
   unlisted-tail e₀ e = if-false (eqb p 0) (λ at k. k tt at) tokenRest e₀ (if-false (listed p) tokenPart (λ at k. refuse 5 place) e (refuse-codes 5 place (λ x g. g)))
 
   abbrev Token-behind : Token → Type 0
@@ -447,12 +531,18 @@ module _ (hid : Hidden) (listed : ℕ → Bool) (l : Listing listed) where
   token-traced place absent g = absent-tail hid listed place 0 refl .traced tt tt
   token-traced place (present p part) g = present-tail hid listed place p (listed-other listed p 0 (g .0) (l .zeroth)) (g .0) .traced part (g .1)
 
-  token-tail : (place p : ℕ) → Codes (tokenTail hid listed place p) (Token-behind hid listed place p) tokenTailBytes (λ at t. []) (λ at t. passed (tokenTailBytes t)) (λ t. tt)
+  token-judged : (place : ℕ) (t : Token) → TokenAllowed listed t → length (tokenTailBytes t) < 2 ^ 64 → (at : ℕ) (k : Unit {0} → ℕ → Layout Head) (ys : List ℕ) → settled at (run (tokenTail hid listed place (tokenPrefix t) at k) (tokenTailBytes t ++ ys)) ≡ limited (tokenTailFields at t) (settled (at + length (tokenTailBytes t)) (run (k tt (at + length (tokenTailBytes t))) ys))
+  token-judged place absent g = absent-tail hid listed place 0 refl .judged tt tt
+  token-judged place (present p part) g = present-tail hid listed place p (listed-other listed p 0 (g .0) (l .zeroth)) (g .0) .judged part (g .1)
+
+  token-tail : (place p : ℕ) → Codes (tokenTail hid listed place p) (Token-behind hid listed place p) tokenTailBytes (λ at t. []) (λ at t. passed (tokenTailBytes t)) tokenTailFields (λ at t. []) (λ t. tt)
   token-tail place p =
       record {
         forth = λ t g at k ys h. subst (λ (q : ℕ). run (tokenTail hid listed place q at k) (tokenTailBytes t ++ ys) ≡ after (length (tokenTailBytes t)) [] (run (k tt (at + length (tokenTailBytes t))) ys)) (g .0) (token-forth place t (g .1) at k ys h);
         back = token-back hid listed place p;
         traced = λ t g at k ys h. subst (λ (q : ℕ). trace (tokenTail hid listed place q at k) (tokenTailBytes t ++ ys) ≡ passed (tokenTailBytes t) ++ trace (k tt (at + length (tokenTailBytes t))) ys) (g .0) (token-traced place t (g .1) at k ys h);
+        judged = λ t g small at k ys. subst (λ (q : ℕ). settled at (run (tokenTail hid listed place q at k) (tokenTailBytes t ++ ys)) ≡ limited (tokenTailFields at t) (settled (at + length (tokenTailBytes t)) (run (k tt (at + length (tokenTailBytes t))) ys))) (g .0) (token-judged place t (g .1) small at k ys);
+        reach = λ t g small at k. tt;
       }
 
   token-small : (t : Token) → TokenAllowed listed t → tokenPrefix t < 256
@@ -464,7 +554,7 @@ module _ (hid : Hidden) (listed : ℕ → Bool) (l : Listing listed) where
   token-spelled absent g = refl
   token-spelled (present p part) g = ap (λ (b : List ℕ). b ++ part) (sym (one-byte p (l .byte p (g .0))))
 
-  pub token-codes : (note : ℕ → ℕ → Entry) → Codes (λ at (k : Unit {0} → ℕ → Layout Head). prefixedAt at hid listed note (k tt)) (TokenAllowed listed) tokenBytes (λ at t. note (tokenPrefix t) at ∷ []) (tokenEvents note) (λ t. tt)
+  pub token-codes : (note : ℕ → ℕ → Entry) → Codes (λ at (k : Unit {0} → ℕ → Layout Head). prefixedAt at hid listed note (k tt)) (TokenAllowed listed) tokenBytes (λ at t. note (tokenPrefix t) at ∷ []) (tokenEvents note) tokenFields (λ at t. []) (λ t. tt)
   unfolding prefixedAt
   token-codes note =
       seen-as (λ t. (tokenPrefix t, t))
@@ -472,6 +562,8 @@ module _ (hid : Hidden) (listed : ℕ → Bool) (l : Listing listed) where
       token-spelled
       (λ at t g. refl)
       (λ at t g. ap (λ (l : List ℕ). looked l ++ (enters (note (tokenPrefix t) at) ∷ passed (tokenTailBytes t))) (sym (one-byte (tokenPrefix t) (token-small t g))) ∙ sym (append-snoc (looked (bytesOf little 1 (tokenPrefix t))) (enters (note (tokenPrefix t) at)) (passed (tokenTailBytes t))))
+      (λ at t g. token-fields at t)
+      (λ at t g. refl)
       (λ t g. refl)
       (λ x g. (x .1, g .1 .1, ap (λ (p : ℕ). (p, x .1)) (g .1 .0)))
       (then {Q = λ at p. tokenTail hid listed at p} (prefix-codes note) (λ at p g. token-tail at p))
@@ -504,14 +596,22 @@ module _ (i : ℕ) where
       entering (passed (x .blindingNonce)) (entry input i 6 (at ∷ []))
       ++ (passed (x .entropy) ++ (valueEvents amountNote amountHalves 0 (x .amount) ++ valueEvents keysNote keysHalves 0 (x .keys)))
 
-  issuance-codes : Codes (λ at (k : Unit {0} → ℕ → Layout Head). issuanceAt i at (k tt)) IssuanceAllowed (λ x. issuanceBytes (some x)) issuanceLog issuanceEvents (λ x. tt)
+  issuance-codes : Codes (λ at (k : Unit {0} → ℕ → Layout Head). issuanceAt i at (k tt)) IssuanceAllowed (λ x. issuanceBytes (some x)) issuanceLog issuanceEvents (λ at x. issuanceFields at (some x)) (λ at x. issuanceSites at (some x)) (λ x. tt)
   unfolding issuanceAt issuanceBytes
   issuance-codes =
-      seen-as (λ x. (x .blindingNonce, (x .entropy, (x .amount, x .keys))))
+      standing issuances (λ at k. (i, k tt, refl))
+      (seen-as (λ x. (x .blindingNonce, (x .entropy, (x .amount, x .keys))))
       (λ x g h. (g .blindingNonce, (g .entropy, (g .amount, (g .keys, ap₂ _&&_ (null-prefix (x .amount) (g .amount)) (null-prefix (x .keys) (g .keys)) ∙ g .notNull)))))
       (λ x g. refl)
       (λ at x g. refl)
       (λ at x g. refl)
+      (λ at x g.
+      let e₁ : at + 32 ≡ at + length (x .blindingNonce) = omega (arith, g .blindingNonce .long) in
+      let e₂ : at + 64 ≡ at + length (x .blindingNonce) + length (x .entropy) = omega (arith, g .blindingNonce .long, g .entropy .long) in
+      λ j. fixed at 32 ++ (fixed (e₁ j) 32 ++ (valueFields (e₂ j) (x .amount) ++ valueFields (e₂ j + length (valueBytes (x .amount))) (x .keys))))
+      (λ at x g.
+      let e : at + 64 ≡ at + length (x .blindingNonce) + length (x .entropy) = omega (arith, g .blindingNonce .long, g .entropy .long) in
+      λ j. site (e j) values ∷ site (e j + length (valueBytes (x .amount))) values ∷ [])
       (λ x g. refl)
       (λ x g. (
         record { blindingNonce = x .0; entropy = x .1 .0; amount = x .1 .1 .0; keys = x .1 .1 .1 },
@@ -530,7 +630,7 @@ module _ (i : ℕ) where
       (opaque-codes entropy 32) λ _ _ _.
       then {Q = λ _ amount at₃ k. valueAt at₃ keysNote keysHalves λ keys at₄. cond (eqb amount 0 && eqb keys 0) (refuse 6 at) (k tt at₄)}
       (value-codes amountNote amountHalves) λ _ x _.
-      handing (λ s. tt) (failing (λ keys. eqb (valuePrefix x) 0 && eqb keys 0) 6 at (value-codes keysNote keysHalves)))
+      handing (λ s. tt) (failing (λ keys. eqb (valuePrefix x) 0 && eqb keys 0) 6 at (value-codes keysNote keysHalves))))
 
   abbrev pub issuedLog : ℕ → Option Issuance → List Entry
   issuedLog at none = []
@@ -544,10 +644,10 @@ module _ (i : ℕ) where
     abbrev issued : Part (Unit {0})
     issued at k = cond (eqb (flagBit 31 raw) 1) (issuanceAt i at (k tt)) (k tt at)
 
-    with-flag : eqb (flagBit 31 raw) 1 ≡ true → Codes issued IssuanceAllowed (λ x. issuanceBytes (some x)) issuanceLog issuanceEvents (λ x. tt)
+    with-flag : eqb (flagBit 31 raw) 1 ≡ true → Codes issued IssuanceAllowed (λ x. issuanceBytes (some x)) issuanceLog issuanceEvents (λ at x. issuanceFields at (some x)) (λ at x. issuanceSites at (some x)) (λ x. tt)
     with-flag e = if-true (eqb (flagBit 31 raw) 1) (λ at k. issuanceAt i at (k tt)) (λ at k. k tt at) e issuance-codes
 
-    without-flag : eqb (flagBit 31 raw) 1 ≡ false → Codes issued (λ (x : Unit {0}). Unit {0}) (λ x. []) (λ at x. []) (λ at x. []) (λ x. tt)
+    without-flag : eqb (flagBit 31 raw) 1 ≡ false → Codes issued (λ (x : Unit {0}). Unit {0}) (λ x. []) (λ at x. []) (λ at x. []) (λ at x. []) (λ at x. []) (λ x. tt)
     without-flag e = if-false (eqb (flagBit 31 raw) 1) (λ at k. issuanceAt i at (k tt)) (λ at k. k tt at) e (empty-codes tt)
 
     issued-forth : (o : Option Issuance) → Flagged (flags raw) o → (at : ℕ) (k : Unit {0} → ℕ → Layout Head) (ys : List ℕ) → at + length (issuanceBytes o) ≤ limit → run (issued at k) (issuanceBytes o ++ ys) ≡ after (length (issuanceBytes o)) (issuedLog at o) (run (k tt (at + length (issuanceBytes o))) ys)
@@ -560,12 +660,24 @@ module _ (i : ℕ) where
     issued-traced none g = without-flag (issuing raw ∙ lt-leb 2 (flags raw) (omega arith)) .traced tt tt
     issued-traced (some x) g = with-flag (issuing raw ∙ le-leb 2 (flags raw) (g .0)) .traced x (g .2)
 
-    issued-codes : Codes issued (Flagged (flags raw)) issuanceBytes issuedLog issuedEvents (λ o. tt)
+    issued-judged : (o : Option Issuance) → Flagged (flags raw) o → length (issuanceBytes o) < 2 ^ 64 → (at : ℕ) (k : Unit {0} → ℕ → Layout Head) (ys : List ℕ) → settled at (run (issued at k) (issuanceBytes o ++ ys)) ≡ limited (issuanceFields at o) (settled (at + length (issuanceBytes o)) (run (k tt (at + length (issuanceBytes o))) ys))
+    unfolding issuanceBytes
+    issued-judged none g = without-flag (issuing raw ∙ lt-leb 2 (flags raw) (omega arith)) .judged tt tt
+    issued-judged (some x) g = with-flag (issuing raw ∙ le-leb 2 (flags raw) (g .0)) .judged x (g .2)
+
+    issued-reach : (o : Option Issuance) → Flagged (flags raw) o → length (issuanceBytes o) < 2 ^ 64 → (at : ℕ) (k : Unit {0} → ℕ → Layout Head) → Every (Comes (issued at k) (issuanceBytes o) at) (issuanceSites at o)
+    unfolding issuanceBytes
+    issued-reach none g = λ small at k. tt
+    issued-reach (some x) g = with-flag (issuing raw ∙ le-leb 2 (flags raw) (g .0)) .reach x (g .2)
+
+    issued-codes : Codes issued (Flagged (flags raw)) issuanceBytes issuedLog issuedEvents issuanceFields issuanceSites (λ o. tt)
     unfolding issuanceBytes
     issued-codes =
         record {
           forth = issued-forth;
           traced = issued-traced;
+          judged = issued-judged;
+          reach = issued-reach;
           back = λ at k xs a bs h f.
               by-cases (eqb (flagBit 31 raw) 1)
               (λ e. let u = with-flag e .back at k xs a bs h f in began-as u (some (u .held)) (leb-true 2 (flags raw) (sym (issuing raw) ∙ e), flags-three raw, u .good) refl refl)
@@ -593,7 +705,7 @@ module _ (i : ℕ) where
   flagged-three f none g = omega arith
   flagged-three f (some x) g = g .1
 
-  pub input-codes : Codes (λ at (k : Unit {0} → ℕ → Layout Head). inputAt i at (k tt)) InputAllowed inputBytes inputLog inputEvents (λ x. tt)
+  pub input-codes : Codes (λ at (k : Unit {0} → ℕ → Layout Head). inputAt i at (k tt)) InputAllowed inputBytes inputLog inputEvents inputFields inputSites (λ x. tt)
   unfolding inputAt inputBytes
   input-codes =
       seen-as (λ x. (x .txid, (rawVout (x .vout) (x .flags), (x .script, (x .sequence, x .issuance)))))
@@ -631,6 +743,23 @@ module _ (i : ℕ) where
       ++ (bodyEvents scriptNote (e₁ j) (x .script)
       ++ (entering (looked (bytesOf little 4 (x .sequence))) (entry input i 5 (x .sequence ∷ []))
       ++ issuedEvents (e₂ j) (x .issuance)))))
+      (λ at x g.
+      let raw = rawVout (x .vout) (x .flags) in
+      let l₁ = g .txid .long in
+      let l₂ = length-bytes little 4 raw in
+      let l₃ = length-bytes little 4 (x .sequence) in
+      let e₀ : at + 32 ≡ at + length (x .txid) = omega arith in
+      let e₁ : at + 36 ≡ at + length (x .txid) + length (bytesOf little 4 raw) = omega arith in
+      let e₂ : at + 36 + length (bodyBytes (x .script)) + 4 ≡ at + length (x .txid) + length (bytesOf little 4 raw) + length (bodyBytes (x .script)) + length (bytesOf little 4 (x .sequence)) = omega arith in
+      λ j. fixed at 32 ++ (fixed (e₀ j) 4 ++ (bodyFields (e₁ j) (x .script) ++ (fixed (e₁ j + length (bodyBytes (x .script))) 4 ++ issuanceFields (e₂ j) (x .issuance)))))
+      (λ at x g.
+      let raw = rawVout (x .vout) (x .flags) in
+      let l₁ = g .txid .long in
+      let l₂ = length-bytes little 4 raw in
+      let l₃ = length-bytes little 4 (x .sequence) in
+      let e₁ : at + 36 ≡ at + length (x .txid) + length (bytesOf little 4 raw) = omega arith in
+      let e₂ : at + 36 + length (bodyBytes (x .script)) + 4 ≡ at + length (x .txid) + length (bytesOf little 4 raw) + length (bodyBytes (x .script)) + length (bytesOf little 4 (x .sequence)) = omega arith in
+      λ j. bodySites (e₁ j) (x .script) ++ issuanceSites (e₂ j) (x .issuance))
       (λ x g. refl)
       (λ x g.
       let raw = x .1 .0 in
@@ -669,7 +798,7 @@ module _ (i : ℕ) where
       let at₃ = at₂ + length (tokenBytes (x .nonce)) in
       tokenEvents (outNote 0) at (x .asset) ++ (valueEvents (outNote 2) (outNote 4) at₁ (x .value) ++ (tokenEvents (outNote 6) at₂ (x .nonce) ++ bodyEvents (outNote 8) at₃ (x .script)))
 
-  pub output-codes : Codes (λ at (k : Unit {0} → ℕ → Layout Head). outputAt i at (k tt)) OutputAllowed outputBytes outputLog outputEvents (λ x. tt)
+  pub output-codes : Codes (λ at (k : Unit {0} → ℕ → Layout Head). outputAt i at (k tt)) OutputAllowed outputBytes outputLog outputEvents outputFields outputSites (λ x. tt)
   unfolding outputAt outputBytes
   output-codes =
       seen-as (λ x. (x .asset, (x .value, (x .nonce, x .script))))
@@ -677,14 +806,16 @@ module _ (i : ℕ) where
       (λ x g. refl)
       (λ at x g. refl)
       (λ at x g. refl)
+      (λ at x g. refl)
+      (λ at x g. refl)
       (λ x g. refl)
       (λ x g. (record { asset = x .0; value = x .1 .0; nonce = x .1 .1 .0; script = x .1 .1 .1 }, record { asset = g .0; value = g .1 .0; nonce = g .1 .1 .0; script = g .1 .1 .1 }, refl))
       (then {Q = λ _ s at₁ k. valueAt at₁ (outNote 2) (outNote 4) λ _ at₂. prefixedAt at₂ noncePart noncePrefix (outNote 6) λ at₃. bodyAt at₃ scriptBody (outNote 8) λ _. k tt}
-      (token-codes assetPart assetPrefix asset-listing (outNote 0)) λ _ _ _.
+      (standing assets (λ at k. (assetPart, outNote 0, k tt, refl)) (token-codes assetPart assetPrefix asset-listing (outNote 0))) λ _ _ _.
       then {Q = λ _ s at₂ k. prefixedAt at₂ noncePart noncePrefix (outNote 6) λ at₃. bodyAt at₃ scriptBody (outNote 8) λ _. k tt}
       (value-codes (outNote 2) (outNote 4)) λ _ _ _.
       then {Q = λ _ s at₃ k. bodyAt at₃ scriptBody (outNote 8) λ _. k tt}
-      (token-codes noncePart noncePrefix nonce-listing (outNote 6)) λ _ _ _.
+      (standing nonces (λ at k. (noncePart, outNote 6, k tt, refl)) (token-codes noncePart noncePrefix nonce-listing (outNote 6))) λ _ _ _.
       handing (λ n. tt) (body-codes scriptBody (outNote 8)))
 
 -- ---- witnesses
@@ -698,7 +829,7 @@ itemLog j = bodyLog (itemNote j)
 abbrev pub itemEvents : ℕ → ℕ → List ℕ → List Event
 itemEvents j = bodyEvents (itemNote j)
 
-item-codes : (j : ℕ) → Codes (λ at (k : Unit {0} → ℕ → Layout Head). itemAt j at (k tt)) Bytes bodyBytes (itemLog j) (itemEvents j) (λ x. tt)
+item-codes : (j : ℕ) → Codes (λ at (k : Unit {0} → ℕ → Layout Head). itemAt j at (k tt)) Bytes bodyBytes (itemLog j) (itemEvents j) bodyFields bodySites (λ x. tt)
 unfolding itemAt
 item-codes j = handing (λ n. tt) (body-codes itemBody (itemNote j))
 
@@ -718,9 +849,9 @@ stackEvents note first at xs = entering (looked (compactBytes (length xs))) (not
 abbrev StackGood : ℕ → ℕ → List (List ℕ) → Type 0
 StackGood room first xs = ((length xs < 2 ^ 64) × (leb (length xs) (room - first) ≡ true)) × Every Bytes xs
 
-stack-codes : (room first : ℕ) (note : ℕ → Entry) → Codes (λ at k. stackAt room first at note k) (StackGood room first) (listBytes bodyBytes) (stackLog note first) (stackEvents note first) (λ xs. length xs)
+stack-codes : (room first : ℕ) (note : ℕ → Entry) → Codes (λ at k. stackAt room first at note k) (StackGood room first) (listBytes bodyBytes) (stackLog note first) (stackEvents note first) (listFields bodyBytes bodyFields) (listSites (room - first) bodyBytes bodySites) (λ xs. length xs)
 unfolding stackAt
-stack-codes room first note = list-codes itemAt Bytes bodyBytes itemLog itemEvents first (noting (λ at n. note n) (count-codes (room - first))) item-codes
+stack-codes room first note = list-codes itemAt Bytes bodyBytes itemLog itemEvents bodyFields bodySites first (noting (λ at n. note n) (count-codes (room - first))) item-codes
 
 -- at least a byte for each
 pub compact-some : (n : ℕ) → 1 ≤ length (compactBytes n)
@@ -775,7 +906,7 @@ module _ (i : ℕ) where
       bodyEvents (inNote 13) at (x .amountProof) ++ (bodyEvents (inNote 15) at₁ (x .keysProof) ++ (stackEvents (inNote 17 first) first at₂ (x .scriptItems) ++ stackEvents peginNote (first + length (x .scriptItems)) at₃ (x .peginItems)))
 
 module _ (room i : ℕ) (s : Seen) where
-  pub inputWitness-codes : Codes (λ at k. inputWitnessAt room i s at k) (Stacks room s) inputWitnessBytes (inputWitnessLog i (s .items)) (inputWitnessEvents i (s .items)) (witnessSeen s)
+  pub inputWitness-codes : Codes (λ at k. inputWitnessAt room i s at k) (Stacks room s) inputWitnessBytes (inputWitnessLog i (s .items)) (inputWitnessEvents i (s .items)) inputWitnessFields (inputWitnessSites room (s .items)) (witnessSeen s)
   unfolding inputWitnessAt inputWitnessBytes
   inputWitness-codes =
       seen-as (λ x. (x .amountProof, (x .keysProof, (x .scriptItems, x .peginItems))))
@@ -785,11 +916,13 @@ module _ (room i : ℕ) (s : Seen) where
       let b₂ = bodyBytes (x .keysProof) in
       let b₃ = listBytes bodyBytes (x .scriptItems) in
       let b₄ = listBytes bodyBytes (x .peginItems) in
-      let long : length b₃ + length b₄ ≤ limit = omega (arith, length-append b₁ (b₂ ++ (b₃ ++ b₄)), length-append b₂ (b₃ ++ b₄), length-append b₃ b₄) in
+      let long : length b₃ + length b₄ < 2 ^ 64 = omega (arith, length-append b₁ (b₂ ++ (b₃ ++ b₄)), length-append b₂ (b₃ ++ b₄), length-append b₃ b₄) in
       let few = list-some bodyBytes body-some (x .scriptItems) in
       let few′ = list-some bodyBytes body-some (x .peginItems) in
       (a .amountProof, (a .keysProof, (((omega arith, g .script), a .scriptItems), ((omega arith, g .pegin), a .peginItems)))))
       (λ x g. refl)
+      (λ at x g. refl)
+      (λ at x g. refl)
       (λ at x g. refl)
       (λ at x g. refl)
       (λ x g. refl)
@@ -821,12 +954,14 @@ module _ (i : ℕ) where
   abbrev pub outputWitnessEvents : ℕ → OutputWitness → List Event
   outputWitnessEvents at x = bodyEvents (outNote i 10) at (x .surjectionProof) ++ bodyEvents (outNote i 12) (at + length (bodyBytes (x .surjectionProof))) (x .rangeProof)
 
-  pub outputWitness-codes : (s : Seen) → Codes (λ at k. outputWitnessAt i s at k) OutputWitnessAllowed outputWitnessBytes outputWitnessLog outputWitnessEvents (outputSeen s)
+  pub outputWitness-codes : (s : Seen) → Codes (λ at k. outputWitnessAt i s at k) OutputWitnessAllowed outputWitnessBytes outputWitnessLog outputWitnessEvents outputWitnessFields outputWitnessSites (outputSeen s)
   unfolding outputWitnessAt outputWitnessBytes
   outputWitness-codes s =
       seen-as (λ x. (x .surjectionProof, x .rangeProof))
       (λ x g h. (g .surjectionProof, g .rangeProof))
       (λ x g. refl)
+      (λ at x g. refl)
+      (λ at x g. refl)
       (λ at x g. refl)
       (λ at x g. refl)
       (λ x g. refl)

@@ -4,6 +4,7 @@
 --     blind         two inputs of one length that agree at the bearing bytes of the first have the same reading
 --     cut           the reading of xs ++ ys is the reading of xs, and then that of ys by what is left of the layout
 --     stable        an ended reading is the same whatever follows
+--     by-bytes      it ends with the last byte that it takes: before it more is wanted, from it on it has ended
 --     prefix-free   no whole text of a layout goes on to another
 -- A number and a part that is never looked at are both a field: so many bytes, and then a layout that those bytes choose. What both
 -- need is proved once of a field.
@@ -250,6 +251,52 @@ module _ {A : Type 0} where
       cut l xs ys
       ∙ ap (λ (s : Reading A). chain (run l xs) s) (rest-ended l xs ys e)
       ∙ ap₂ (λ (n : ℕ) (es : List Entry). reading (run l xs .answer) n es) (add-zero (run l xs .taken)) (append-nil (run l xs .log))
+
+  -- ---- by-bytes
+
+  -- where more is wanted, the end wants a byte at least
+  rest-takes-field : (w : ℕ) (xs ys : List ℕ) (r s : Reading A) (l m : Layout A) → run m ys ≡ fieldRun (w - length xs) ys s → (r .answer ≡ more → Ends (run l ys) → 0 < run l ys .taken) → fieldRun w xs r .answer ≡ more → Ends (run (fieldRest w xs l m) ys) → 0 < run (fieldRest w xs l m) ys .taken
+  rest-takes-field w xs ys r s l m e ih wants ends =
+      by-cases (leb w (length xs))
+      (λ t. let h = leb-true w (length xs) t in
+      let same = rest-there w xs l m h in
+      subst (λ (l′ : Layout A). 0 < run l′ ys .taken) (sym same) (ih (ap (λ (r′ : Reading A). r′ .answer) (sym (field-there w xs r h)) ∙ wants) (subst (λ (l′ : Layout A). Ends (run l′ ys)) same ends)))
+      (λ t. let h = leb-false w (length xs) t in
+      let same = ap (λ (l′ : Layout A). run l′ ys) (rest-short w xs l m h) ∙ e in
+      subst (λ (r′ : Reading A). 0 < r′ .taken) (sym same)
+      (field-case (λ (r′ : Reading A). Ends r′ → 0 < r′ .taken) (w - length xs) ys s (λ _ _. omega arith) (λ _ never. absurd (never refl)) (subst Ends same ends)))
+
+  rest-takes : (l : Layout A) (xs ys : List ℕ) → run l xs .answer ≡ more → Ends (run (rest l xs) ys) → 0 < run (rest l xs) ys .taken
+  unfolding run rest
+  rest-takes (number o w k) xs ys = rest-takes-field w xs ys _ _ _ _ refl (rest-takes (k (value o (take w xs))) (drop w xs) ys)
+  rest-takes (opaque h w l) xs ys = rest-takes-field w xs ys _ _ _ _ refl (rest-takes l (drop w xs) ys)
+  rest-takes (enter e l) xs ys = rest-takes l xs ys
+  rest-takes (refuse n p) xs ys = λ e. absurd (refused-not-more e)
+  rest-takes (accept a) xs ys = λ e. absurd (finished-not-more e)
+
+  wants-or-ends : (a : Answer A) → {C : Type 0} → (a ≡ more → C) → ((a ≡ more → ⊥) → C) → C
+  wants-or-ends (finished a) f g = g (λ e. finished-not-more e)
+  wants-or-ends more f g = f refl
+  wants-or-ends (refused n p) f g = g (λ e. refused-not-more e)
+
+  -- answer and bytes taken
+  abbrev pub told : Reading A → Answer A × ℕ
+  told r = (r .answer, r .taken)
+
+  pub by-bytes : (l : Layout A) (xs ys : List ℕ) → Ends (run l (xs ++ ys)) → let r = run l (xs ++ ys) in told (run l xs) ≡ cond (leb (r .taken) (length xs)) (told r) (more, length xs)
+  by-bytes l xs ys ends =
+      let r = run l (xs ++ ys) in
+      let whole = cut l xs ys in
+      wants-or-ends (run l xs .answer)
+      (λ e.
+      let all-taken = takes-all l xs e in
+      let some = rest-takes l xs ys e (subst Ends whole ends) in
+      let later : leb (r .taken) (length xs) ≡ false = lt-leb (r .taken) (length xs) (omega (arith, ap (λ (s : Reading A). s .taken) whole)) in
+      (λ j. (e j, all-taken j)) ∙ ap (λ (t : Bool). cond t (told r) (more, length xs)) (sym later))
+      (λ never.
+      let same = stable l xs ys never in
+      let by-then : leb (r .taken) (length xs) ≡ true = le-leb (r .taken) (length xs) (omega (arith, taken-there l xs, ap (λ (s : Reading A). s .taken) same)) in
+      ap told (sym same) ∙ ap (λ (t : Bool). cond t (told r) (more, length xs)) (sym by-then))
 
   pub prefix-free : (l : Layout A) (xs ys : List ℕ) (a : A) → run l xs .answer ≡ finished a → run l (xs ++ ys) .taken ≡ length (xs ++ ys) → ys ≡ []
   prefix-free l xs ys a e whole =

@@ -13,7 +13,7 @@ use borrow.Author.Tests.{leb-true, leb-false, eqb-true, eqb-false, ne-eqb}
 use Rattle.layout.specs.Number.{Order, little, big, value, bytesOf, Bytes}
 use Rattle.layout.specs.Layout.{Layout, number, opaque, enter, refuse, accept, Answer, finished, more, refused, Reading, Entry, Hidden, txid, blindingNonce, entropy, assetPart, noncePart, commitmentPart, scriptBody, proofBody, itemBody, run}
 use Rattle.layout.specs.Transaction.{Head, Room, limit, within, furtherAt, numberAt, opaqueAt, announced, least, compactAt, countAt, bodyAt, valueAt, prefixedAt, each, alone, flagBit, assetPrefix, noncePrefix, Seen, seen, issuanceAt, inputAt, outputAt, itemAt, stackAt, inputWitnessAt, outputWitnessAt, transaction}
-use Rattle.layout.specs.Outcome.{Sizes, roomOf, readingOf}
+use Rattle.layout.specs.Outcome.{Sizes, roomOf, readingOf, partial}
 use Rattle.layout.specs.Contents.{compactBytes}
 use Rattle.layout.specs.Refusals.{Ends, Left, inputs, outputs, items, fixedWidth, listedValue, listedAsset, listedNonce, Refusal, fixedPast, furtherPast, bodyPast, notShortest, tooMany, notListed, nullIssuance, flagAbove, allEmpty}
 use Rattle.layout.proofs.Number.{bytes-take, bytes-drop, bytes-value, value-small}
@@ -337,5 +337,5 @@ module _ (room : Room) where
       ((a ++ b) ++ compactBytes ins) (counted flag 5 ins (a ++ b) start) e₃
 
 -- Where 01's reading refuses, the bytes taken show it.
-pub refusal-shown : (z : Sizes) (xs : List ℕ) → Bytes xs → (n p : ℕ) → readingOf z xs .answer ≡ refused n p → Refusal (roomOf z) n p (take (readingOf z xs .taken) xs)
+pub refusal-shown : (z : Sizes) (xs : List ℕ) → Bytes xs → (n p : ℕ) → partial z xs .answer ≡ refused n p → Refusal (roomOf z) n p (take (partial z xs .taken) xs)
 refusal-shown z xs q n p e = transaction-says (roomOf z) .rightly xs q n p e

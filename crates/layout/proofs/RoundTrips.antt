@@ -26,12 +26,13 @@ use Rattle.layout.specs.Layout.{Answer, finished, more, refused, Reading
 use Rattle.layout.specs.Transaction.{Head, limit, transaction}
 use Rattle.layout.specs.Outcome.{Tables, Sizes, Outcome, roomOf, outcome, readingOf, partial, finish, follow, strict}
 use Rattle.layout.specs.Contents.{Contents, contentsBytes, Allowed}
+use Rattle.layout.specs.Fields.{Formed}
 use Rattle.layout.specs.Records.{headOf, Fits, tablesOf}
 use Rattle.layout.specs.Shows.{Shows}
 use Rattle.layout.specs.Writing.{contentsOf, Fault, passes, fault, _also_, unless, tableFaults, writtenBytes, faults, Verdict, wrote, unwritten, verdict, over, touched, Written, writtenLength, writing}
 use Rattle.layout.proofs.Reading.{by-cases, refused-not-finished}
 use Rattle.layout.proofs.Theorems.{finish-finished, follow-finished}
-use Rattle.layout.proofs.Whole.{Formed, reads, found}
+use Rattle.layout.proofs.Whole.{reads, found}
 use Rattle.layout.proofs.Laying.{laid-whole}
 use Rattle.layout.proofs.Showing.{Standing, standing, Parts}
 use Rattle.layout.proofs.Own.{own-shows}

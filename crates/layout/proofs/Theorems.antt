@@ -62,8 +62,11 @@ prefix-free z xs ys h e whole = reading-laws.prefix-free (transaction (roomOf z)
 pub takes-all : (z : Sizes) (xs : List ℕ) → readingOf z xs .answer ≡ more → readingOf z xs .taken ≡ length xs
 takes-all z xs e = reading-laws.takes-all (transaction (roomOf z)) xs e
 
-pub one-byte-more : (z : Sizes) (xs : List ℕ) → readingOf z xs .answer ≡ more → atOnce z xs .answer ≡ refused 1 (length xs)
-one-byte-more z xs e = ap (λ a. finish a (readingOf z xs .taken)) e ∙ ap (λ n. refused 1 n) (takes-all z xs e)
+pub one-byte-more : (z : Sizes) (xs : List ℕ) → partial z xs .answer ≡ more → atOnce z xs ≡ record { answer = refused 1 (length xs); taken = length xs; tables = zeros z }
+one-byte-more z xs e =
+    let r = readingOf z xs in
+    ap (λ (a : Answer Head). outcome z (reading (finish a (r .taken)) (r .taken) (r .log))) e
+    ∙ ap (λ (n : ℕ). record { answer = refused 1 n; taken = n; tables = zeros z }) (takes-all z xs e)
 
 -- ---- what every reading keeps
 
@@ -76,7 +79,8 @@ roomRows z = rows (roomOf z .inputs) (roomOf z .outputs) (roomOf z .items)
 keeps : (z : Sizes) (xs : List ℕ) → Bytes xs → Kept (roomRows z) 0 (rows 0 0 0) 0 (readingOf z xs)
 keeps z xs h = transaction-kept (roomRows z) (roomOf z) (room-small z) (omega arith) xs h
 
-pub taken-limit : (z : Sizes) (xs : List ℕ) → Bytes xs → readingOf z xs .taken ≤ limit
+-- in numbers, so that it says what the limit is
+pub taken-limit : (z : Sizes) (xs : List ℕ) → Bytes xs → readingOf z xs .taken ≤ 4000000
 taken-limit z xs h = omega (arith, keeps z xs h .limited)
 
 -- a refusal's number is 2 to 8 (1 and 9 are finish's and the strict form's), and its place is no further than the bytes taken

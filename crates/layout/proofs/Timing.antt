@@ -15,13 +15,14 @@ use Rattle.layout.specs.Transaction.{Head, Room, limit, entry, transacti
 use Rattle.layout.specs.Outcome
 use Rattle.layout.specs.Outcome.{Tables, Sizes, roomOf, zeros, laid, readingOf, partial}
 use Rattle.layout.specs.Contents.{Value, null, explicit, commitment, Token, absent, present, Issuance, Input, Output, InputWitness, OutputWitness, Witnesses, Contents, compactBytes, flat, bodyBytes, listBytes, valueBytes, tokenBytes, issuanceBytes, rawVout, inputBytes, outputBytes, inputWitnessBytes, outputWitnessBytes, flagOf, witnessesBytes, contentsBytes, Every, IssuanceAllowed, Flagged, InputAllowed}
+use Rattle.layout.specs.Fields.{Formed}
 use Rattle.layout.specs.Records.{valuePrefix}
 use Rattle.layout.proofs.Number.{length-bytes}
 use Rattle.layout.proofs.Reading.{refused-not-more, refused-not-finished, stable}
 use Rattle.layout.proofs.Trace.{Event, shown, hidden, enters, looked, passed, entering, entries, upTo, log-by}
 use Rattle.layout.proofs.Codes.{eventsAll}
 use Rattle.layout.proofs.Parts.{bodyEvents, valueEvents, tokenEvents, amountNote, amountHalves, keysNote, keysHalves, issuanceEvents, issuedEvents, scriptNote, inputEvents, outNote, outputEvents, itemNote, itemEvents, stackEvents, inNote, peginNote, inputWitnessEvents, outputWitnessEvents}
-use Rattle.layout.proofs.Whole.{Formed, inputWitnessesEvents, tailEvents, wholeEvents, reads, traced}
+use Rattle.layout.proofs.Whole.{inputWitnessesEvents, tailEvents, wholeEvents, reads, traced}
 use Rattle.layout.proofs.Timed.{Timed, timed, entered, by, bodyTimed, amountTimed, valueTimed, tokenTimed, issuanceTimed, issuedTimed, inputTimed, outputTimed, allTimed, itemTimed, stackTimed, inputWitnessTimed, outputWitnessTimed, inputWitnessesTimed, tailTimed, wholeTimed}
 
 -- each entry with the bytes that came before it, from a position on

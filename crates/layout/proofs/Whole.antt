@@ -13,12 +13,14 @@ use Rattle.layout.specs.Number.{little, bytesOf, Bytes}
 use Rattle.layout.specs.Layout.{Layout, refuse, accept, finished, Reading, reading, Entry, run}
 use Rattle.layout.specs.Transaction.{Head, Room, limit, numberAt, countAt, each, alone, Seen, seen, inputAt, outputAt, inputWitnessAt, outputWitnessAt, transaction}
 use Rattle.layout.specs.Contents.{Token, absent, present, valueBytes, issuanceBytes, rawVout, Input, Output, InputWitness, OutputWitness, Witnesses, Contents, compactBytes, flat, bodyBytes, listBytes, tokenBytes, inputBytes, outputBytes, inputWitnessBytes, outputWitnessBytes, flagOf, witnessesBytes, contentsBytes, Every, InputAllowed, OutputAllowed, InputWitnessAllowed, OutputWitnessAllowed, inputEmpty, outputEmpty, all, WitnessesAllowed, MaybeAllowed, Allowed}
+use Rattle.layout.specs.Fields.{Formed, fixed, fieldsEach, listFields, inputFields, outputFields, inputWitnessFields, outputWitnessFields, witnessesFields, fieldsOf, limited}
+use Rattle.layout.specs.Sites.{Site, sitesEach, listSites, inputSites, outputSites, inputWitnessSites, inputWitnessesSites, outputWitnessSites, witnessesSites, sitesOf}
 use Rattle.layout.specs.Records.{itemsOf, sum, itemCount, headOf, Fits}
 use Rattle.layout.proofs.Number.{length-bytes}
-use Rattle.layout.proofs.Reading.{by-cases}
+use Rattle.layout.proofs.Reading.{by-cases, told}
 use Rattle.layout.proofs.Trace.{Event, shown, looked, trace}
 use Rattle.layout.proofs.Outpoint.{true-not-false}
-use Rattle.layout.proofs.Codes.{Part, after, Finishes, Began, Codes, then, noting, passing, failing, seen-as, began-as, handing, if-true, if-false, empty-codes, refuse-codes, GoodEach, logEach, eventsEach, nextEach, each-codes, logAll, eventsAll, list-codes, number-codes}
+use Rattle.layout.proofs.Codes.{Part, after, settled, Comes, sitesAll, Finishes, Began, Codes, then, noting, passing, failing, seen-as, began-as, handing, if-true, if-false, empty-codes, refuse-codes, GoodEach, logEach, eventsEach, nextEach, each-codes, logAll, eventsAll, list-codes, number-codes}
 use Rattle.layout.proofs.Parts.{one-byte, count-codes, inputLog, inputEvents, input-codes, outputLog, outputEvents, output-codes, Stacks, witnessSeen, inputWitnessLog, inputWitnessEvents, inputWitness-codes, outputSeen, outputWitnessLog, outputWitnessEvents, outputWitness-codes, list-some, compact-some}
 
 -- ---- what later witnesses need of earlier ones
@@ -57,6 +59,11 @@ module _ (room : ℕ) where
   inputs-events : (i : ℕ) (s : Seen) (at : ℕ) (xs : List InputWitness) → inputWitnessesEvents i (s .items) at xs ≡ eventsEach inputWitnessBytes (λ i s. inputWitnessEvents i (s .items)) witnessSeen i s at xs
   inputs-events i s at [] = refl
   inputs-events i s at (x ∷ xs) = ap (λ (es : List Event). inputWitnessEvents i (s .items) at x ++ es) (inputs-events (suc i) (witnessSeen s x) (at + length (inputWitnessBytes x)) xs)
+
+  inputs-sites : (s : Seen) (at : ℕ) (xs : List InputWitness) → inputWitnessesSites room (s .items) at xs ≡ sitesAll inputWitnessBytes (λ s. inputWitnessSites room (s .items)) witnessSeen s at xs
+  unfolding inputWitnessesSites
+  inputs-sites s at [] = refl
+  inputs-sites s at (x ∷ xs) = ap (λ (ss : List Site). inputWitnessSites room (s .items) at x ++ ss) (inputs-sites (witnessSeen s x) (at + length (inputWitnessBytes x)) xs)
 
   inputs-seen : (n : ℕ) (b : Bool) (xs : List InputWitness) → inputsSeen (seen n b) xs ≡ seen (n + sum itemsOf xs) (b && all inputEmpty xs)
   unfolding sum all
@@ -104,6 +111,11 @@ outputs-events : (i : ℕ) (s : Seen) (at : ℕ) (xs : List OutputWitness) → o
 outputs-events i s at [] = refl
 outputs-events i s at (x ∷ xs) = ap (λ (es : List Event). outputWitnessEvents i at x ++ es) (outputs-events (suc i) (outputSeen s x) (at + length (outputWitnessBytes x)) xs)
 
+outputs-sites : (s : Seen) (at : ℕ) (xs : List OutputWitness) → sitesEach outputWitnessBytes outputWitnessSites at xs ≡ sitesAll outputWitnessBytes (λ s. outputWitnessSites) outputSeen s at xs
+unfolding sitesEach
+outputs-sites s at [] = refl
+outputs-sites s at (x ∷ xs) = ap (λ (ss : List Site). outputWitnessSites at x ++ ss) (outputs-sites (outputSeen s x) (at + length (outputWitnessBytes x)) xs)
+
 outputs-seen : (n : ℕ) (b : Bool) (xs : List OutputWitness) → outputsSeen (seen n b) xs ≡ seen n (b && all outputEmpty xs)
 unfolding all
 outputs-seen n b [] = ap (seen n) (sym (and-true b))
@@ -142,7 +154,7 @@ module _ (room ins outs : ℕ) where
   abbrev pub witnessesEvents : ℕ → Witnesses → List Event
   witnessesEvents at x = inputWitnessesEvents room 0 0 at (x .inputs) ++ outputWitnessesEvents 0 (at + length (flat inputWitnessBytes (x .inputs))) (x .outputs)
 
-  witnessed-codes : Codes witnessed Witnessed (λ x. flat inputWitnessBytes (x .inputs) ++ flat outputWitnessBytes (x .outputs)) witnessesLog witnessesEvents (λ x. sum itemsOf (x .inputs))
+  witnessed-codes : Codes witnessed Witnessed (λ x. flat inputWitnessBytes (x .inputs) ++ flat outputWitnessBytes (x .outputs)) witnessesLog witnessesEvents (λ at x. witnessesFields at (some x)) (λ at x. witnessesSites room at (some x)) (λ x. sum itemsOf (x .inputs))
   witnessed-codes =
       seen-as (λ x. (x .inputs, x .outputs))
       (λ x g h. (
@@ -152,6 +164,8 @@ module _ (room ins outs : ℕ) where
       (λ x g. refl)
       (λ at x g. ap₂ (λ (es fs : List Entry). es ++ fs) (inputs-log room 0 (seen 0 true) at (x .inputs)) (outputs-log 0 (inputsSeen room (seen 0 true) (x .inputs)) (at + length (flat inputWitnessBytes (x .inputs))) (x .outputs)))
       (λ at x g. ap₂ (λ (es fs : List Event). es ++ fs) (inputs-events room 0 (seen 0 true) at (x .inputs)) (outputs-events 0 (inputsSeen room (seen 0 true) (x .inputs)) (at + length (flat inputWitnessBytes (x .inputs))) (x .outputs)))
+      (λ at x g. refl)
+      (λ at x g. ap₂ (λ (ss ts : List Site). ss ++ ts) (inputs-sites room (seen 0 true) at (x .inputs)) (outputs-sites (inputsSeen room (seen 0 true) (x .inputs)) (at + length (flat inputWitnessBytes (x .inputs))) (x .outputs)))
       (λ x g. sym (ap (λ (s : Seen). s .items) (last-seen (x .inputs) (x .outputs))))
       (λ x g.
       let fit = fit-stacks room (seen 0 true) (x .0) (omega arith) (g .0 .1) in (
@@ -169,8 +183,8 @@ module _ (room ins outs : ℕ) where
         refl,
       ))
       (then {Q = λ _ s₁ at₁ k. each outputWitnessAt outs 0 s₁ at₁ λ s₂ at₂. cond (s₂ .empty) (refuse 8 4) (k (s₂ .items) at₂)}
-      (each-codes (inputWitnessAt room) (Stacks room) inputWitnessBytes (λ i s. inputWitnessLog i (s .items)) (λ i s. inputWitnessEvents i (s .items)) witnessSeen (inputWitness-codes room) ins 0 (seen 0 true)) λ _ ws _.
-      handing (λ s. s .items) (failing (λ s. s .empty) 8 4 (each-codes outputWitnessAt (λ s. OutputWitnessAllowed) outputWitnessBytes (λ i s. outputWitnessLog i) (λ i s. outputWitnessEvents i) outputSeen outputWitness-codes outs 0 (inputsSeen room (seen 0 true) ws))))
+      (each-codes (inputWitnessAt room) (Stacks room) inputWitnessBytes (λ i s. inputWitnessLog i (s .items)) (λ i s. inputWitnessEvents i (s .items)) inputWitnessFields (λ s. inputWitnessSites room (s .items)) witnessSeen (inputWitness-codes room) ins 0 (seen 0 true)) λ _ ws _.
+      handing (λ s. s .items) (failing (λ s. s .empty) 8 4 (each-codes outputWitnessAt (λ s. OutputWitnessAllowed) outputWitnessBytes (λ i s. outputWitnessLog i) (λ i s. outputWitnessEvents i) outputWitnessFields (λ s. outputWitnessSites) outputSeen outputWitness-codes outs 0 (inputsSeen room (seen 0 true) ws))))
 
   -- With flag 1: the witnesses. 7: a flag above 1.
   module _ (flag : ℕ) where
@@ -183,13 +197,13 @@ module _ (room ins outs : ℕ) where
     abbrev TailGood : Option Witnesses → Type 0
     TailGood o = (flagOf o ≡ flag) × MaybeAllowed ins outs o × (itemCount o ≤ room)
 
-    plain : eqb flag 0 ≡ true → Codes tailAt (λ (x : Unit {0}). Unit {0}) (λ x. []) (λ at x. []) (λ at x. []) (λ x. 0)
+    plain : eqb flag 0 ≡ true → Codes tailAt (λ (x : Unit {0}). Unit {0}) (λ x. []) (λ at x. []) (λ at x. []) (λ at x. []) (λ at x. []) (λ x. 0)
     plain e = if-true (eqb flag 0) (λ at k. k 0 at) otherwise e (empty-codes 0)
 
-    flagged : eqb flag 0 ≡ false → eqb flag 1 ≡ true → Codes tailAt Witnessed (λ x. flat inputWitnessBytes (x .inputs) ++ flat outputWitnessBytes (x .outputs)) witnessesLog witnessesEvents (λ x. sum itemsOf (x .inputs))
+    flagged : eqb flag 0 ≡ false → eqb flag 1 ≡ true → Codes tailAt Witnessed (λ x. flat inputWitnessBytes (x .inputs) ++ flat outputWitnessBytes (x .outputs)) witnessesLog witnessesEvents (λ at x. witnessesFields at (some x)) (λ at x. witnessesSites room at (some x)) (λ x. sum itemsOf (x .inputs))
     flagged e₀ e₁ = if-false (eqb flag 0) (λ at k. k 0 at) otherwise e₀ (if-true (eqb flag 1) witnessed (λ at k. refuse 7 4) e₁ witnessed-codes)
 
-    unflagged : eqb flag 0 ≡ false → eqb flag 1 ≡ false → Codes tailAt (λ (x : Unit {0}). ⊥) (λ x. []) (λ at x. []) (λ at x. []) (λ x. 0)
+    unflagged : eqb flag 0 ≡ false → eqb flag 1 ≡ false → Codes tailAt (λ (x : Unit {0}). ⊥) (λ x. []) (λ at x. []) (λ at x. []) (λ at x. []) (λ at x. []) (λ x. 0)
     unflagged e₀ e₁ = if-false (eqb flag 0) (λ at k. k 0 at) otherwise e₀ (if-false (eqb flag 1) witnessed (λ at k. refuse 7 4) e₁ (refuse-codes 7 4 (λ x g. g)))
 
     abbrev pub tailLog : ℕ → Option Witnesses → List Entry
@@ -210,12 +224,24 @@ module _ (room ins outs : ℕ) where
     tail-traced none g = plain (eq-eqb flag 0 (sym (g .0))) .traced tt tt
     tail-traced (some x) g = flagged (ne-eqb flag 0 (λ e. omega (arith, g .0))) (eq-eqb flag 1 (sym (g .0))) .traced x (record { allowed = g .1; room-for = g .2 })
 
-    tail-codes : Codes tailAt TailGood witnessesBytes tailLog tailEvents itemCount
+    tail-judged : (o : Option Witnesses) → TailGood o → length (witnessesBytes o) < 2 ^ 64 → (at : ℕ) (k : ℕ → ℕ → Layout Head) (ys : List ℕ) → settled at (run (tailAt at k) (witnessesBytes o ++ ys)) ≡ limited (witnessesFields at o) (settled (at + length (witnessesBytes o)) (run (k (itemCount o) (at + length (witnessesBytes o))) ys))
+    unfolding witnessesBytes
+    tail-judged none g = plain (eq-eqb flag 0 (sym (g .0))) .judged tt tt
+    tail-judged (some x) g = flagged (ne-eqb flag 0 (λ e. omega (arith, g .0))) (eq-eqb flag 1 (sym (g .0))) .judged x (record { allowed = g .1; room-for = g .2 })
+
+    tail-reach : (o : Option Witnesses) → TailGood o → length (witnessesBytes o) < 2 ^ 64 → (at : ℕ) (k : ℕ → ℕ → Layout Head) → Every (Comes (tailAt at k) (witnessesBytes o) at) (witnessesSites room at o)
+    unfolding witnessesBytes
+    tail-reach none g = λ small at k. tt
+    tail-reach (some x) g = flagged (ne-eqb flag 0 (λ e. omega (arith, g .0))) (eq-eqb flag 1 (sym (g .0))) .reach x (record { allowed = g .1; room-for = g .2 })
+
+    tail-codes : Codes tailAt TailGood witnessesBytes tailLog tailEvents witnessesFields (witnessesSites room) itemCount
     unfolding witnessesBytes
     tail-codes =
         record {
           forth = tail-forth;
           traced = tail-traced;
+          judged = tail-judged;
+          reach = tail-reach;
           back = λ at k xs a bs h f.
               by-cases (eqb flag 0)
               (λ e. began-as (plain e .back at k xs a bs h f) none (sym (eqb-true flag 0 e), tt, omega arith) refl refl)
@@ -241,15 +267,6 @@ wholeAt room at k =
 whole-transaction : (room : Room) → transaction room ≡ wholeAt room 0 (λ h at. accept (h at))
 unfolding transaction
 whole-transaction room = refl
-
--- allowed but for the size limit, and with room
-pub record Formed (room : Room) (x : Contents) : Type 0 where
-  pub version : x .version < 2 ^ 32
-  pub inputs : Every InputAllowed (x .inputs)
-  pub outputs : Every OutputAllowed (x .outputs)
-  pub locktime : x .locktime < 2 ^ 32
-  pub witnesses : MaybeAllowed (length (x .inputs)) (length (x .outputs)) (x .witnesses)
-  pub fits : Fits room x
 
 pub input-some : (x : Input) → 1 ≤ length (inputBytes x)
 unfolding inputBytes
@@ -306,7 +323,7 @@ module _ (room : Room) where
   abbrev headBy : Contents → ℕ → Head
   headBy x bytes = record { version = x .version; flag = flagOf (x .witnesses); inputs = length (x .inputs); outputs = length (x .outputs); items = itemCount (x .witnesses); locktime = x .locktime; bytes = bytes }
 
-  whole-codes : Codes (wholeAt room) (Formed room) contentsBytes wholeLog wholeEvents headBy
+  whole-codes : Codes (wholeAt room) (Formed room) contentsBytes wholeLog wholeEvents fieldsOf (sitesOf room) headBy
   unfolding contentsBytes
   whole-codes =
       seen-as (λ x. (x .version, (flagOf (x .witnesses), (x .inputs, (x .outputs, (x .locktime, x .witnesses))))))
@@ -315,7 +332,7 @@ module _ (room : Room) where
       let b₃ = listBytes inputBytes (x .inputs) in
       let b₄ = listBytes outputBytes (x .outputs) in
       let b₅ = bytesOf little 4 (x .locktime) ++ witnessesBytes (x .witnesses) in
-      let long : length b₃ + length b₄ ≤ limit = omega (arith, length-append b₁ (flagOf (x .witnesses) ∷ (b₃ ++ (b₄ ++ b₅))), length-append b₃ (b₄ ++ b₅), length-append b₄ b₅) in
+      let long : length b₃ + length b₄ < 2 ^ 64 = omega (arith, length-append b₁ (flagOf (x .witnesses) ∷ (b₃ ++ (b₄ ++ b₅))), length-append b₃ (b₄ ++ b₅), length-append b₄ b₅) in
       let few = list-some inputBytes input-some (x .inputs) in
       let few′ = list-some outputBytes output-some (x .outputs) in (
         g .version,
@@ -356,6 +373,31 @@ module _ (room : Room) where
       ++ ((looked (compactBytes (length (x .inputs))) ++ inputsEvents 0 (e₁ j + length (compactBytes (length (x .inputs)))) (x .inputs))
       ++ ((looked (compactBytes (length (x .outputs))) ++ outputsEvents 0 (e₁ j + b + length (compactBytes (length (x .outputs)))) (x .outputs))
       ++ (looked (bytesOf little 4 (x .locktime)) ++ tailEvents (room .items) (length (x .inputs)) (length (x .outputs)) (flagOf (x .witnesses)) (e₃ j) (x .witnesses))))))
+      (λ at x g.
+      let l₁ = length-bytes little 4 (x .version) in
+      let l₂ = length-bytes little 1 (flagOf (x .witnesses)) in
+      let l₃ = length-bytes little 4 (x .locktime) in
+      let a = at + length (bytesOf little 4 (x .version)) + length (bytesOf little 1 (flagOf (x .witnesses))) in
+      let e₀ : at + 4 ≡ at + length (bytesOf little 4 (x .version)) = omega arith in
+      let e₁ : at + 5 ≡ a = omega arith in
+      let b = length (listBytes inputBytes (x .inputs)) in
+      let c = length (listBytes outputBytes (x .outputs)) in
+      let e₃ : at + 5 + b + c + 4 ≡ a + b + c + length (bytesOf little 4 (x .locktime)) = omega arith in
+      λ j.
+      fixed at 4 ++ (fixed (e₀ j) 1
+      ++ (listFields inputBytes inputFields (e₁ j) (x .inputs)
+      ++ (listFields outputBytes outputFields (e₁ j + b) (x .outputs)
+      ++ (fixed (e₁ j + b + c) 4 ++ witnessesFields (e₃ j) (x .witnesses))))))
+      (λ at x g.
+      let l₁ = length-bytes little 4 (x .version) in
+      let l₂ = length-bytes little 1 (flagOf (x .witnesses)) in
+      let l₃ = length-bytes little 4 (x .locktime) in
+      let a = at + length (bytesOf little 4 (x .version)) + length (bytesOf little 1 (flagOf (x .witnesses))) in
+      let e₁ : at + 5 ≡ a = omega arith in
+      let b = length (listBytes inputBytes (x .inputs)) in
+      let c = length (listBytes outputBytes (x .outputs)) in
+      let e₃ : at + 5 + b + c + 4 ≡ a + b + c + length (bytesOf little 4 (x .locktime)) = omega arith in
+      λ j. listSites (room .inputs) inputBytes inputSites (e₁ j) (x .inputs) ++ (listSites (room .outputs) outputBytes outputSites (e₁ j + b) (x .outputs) ++ witnessesSites (room .items) (e₃ j) (x .witnesses)))
       (λ x g. refl)
       (λ x g.
       let rest = x .1 .1 .1 .1 in
@@ -376,9 +418,9 @@ module _ (room : Room) where
       then {Q = λ _ flag at₂ k. countAt at₂ (room .inputs) λ ins at₃. each (alone inputAt) ins 0 tt at₃ λ _ at₄. countAt at₄ (room .outputs) λ outs at₅. each (alone outputAt) outs 0 tt at₅ λ _ at₆. numberAt at₆ little 4 λ locktime at₇. tailAt (room .items) ins outs flag at₇ λ n. k (λ bytes. record { version = version; flag = flag; inputs = ins; outputs = outs; items = n; locktime = locktime; bytes = bytes })}
       (number-codes (λ at. at) little 1) λ _ flag _.
       then {Q = λ _ ins at₄ k. countAt at₄ (room .outputs) λ outs at₅. each (alone outputAt) outs 0 tt at₅ λ _ at₆. numberAt at₆ little 4 λ locktime at₇. tailAt (room .items) ins outs flag at₇ λ n. k (λ bytes. record { version = version; flag = flag; inputs = ins; outputs = outs; items = n; locktime = locktime; bytes = bytes })}
-      (list-codes inputAt InputAllowed inputBytes inputLog inputEvents 0 (count-codes (room .inputs)) input-codes) λ _ ins _.
+      (list-codes inputAt InputAllowed inputBytes inputLog inputEvents inputFields inputSites 0 (count-codes (room .inputs)) input-codes) λ _ ins _.
       then {Q = λ _ outs at₆ k. numberAt at₆ little 4 λ locktime at₇. tailAt (room .items) (length ins) outs flag at₇ λ n. k (λ bytes. record { version = version; flag = flag; inputs = length ins; outputs = outs; items = n; locktime = locktime; bytes = bytes })}
-      (list-codes outputAt OutputAllowed outputBytes outputLog outputEvents 0 (count-codes (room .outputs)) output-codes) λ _ outs _.
+      (list-codes outputAt OutputAllowed outputBytes outputLog outputEvents outputFields outputSites 0 (count-codes (room .outputs)) output-codes) λ _ outs _.
       then {Q = λ _ locktime at₇ k. tailAt (room .items) (length ins) (length outs) flag at₇ λ n. k (λ bytes. record { version = version; flag = flag; inputs = length ins; outputs = length outs; items = n; locktime = locktime; bytes = bytes })}
       (number-codes (λ at. at) little 4) λ _ locktime _.
       handing (λ n bytes. record { version = version; flag = flag; inputs = length ins; outputs = length outs; items = n; locktime = locktime; bytes = bytes }) (tail-codes (room .items) (length ins) (length outs) flag))
@@ -401,6 +443,20 @@ traced room x g h ys =
     ap (λ (l : Layout Head). trace l (contentsBytes x ++ ys)) (whole-transaction room)
     ∙ whole-codes room .traced x g 0 (λ h at. accept (h at)) ys (omega arith)
     ∙ append-nil (wholeEvents room 0 x)
+
+-- of whatever length, the first of its fields that would end past 4,000,000 is refused, with the last byte before it, whatever follows; if there is none, it is read
+pub judged : (room : Room) (x : Contents) → Formed room x → length (contentsBytes x) < 2 ^ 64 → (ys : List ℕ) → told (run (transaction room) (contentsBytes x ++ ys)) ≡ limited (fieldsOf 0 x) (finished (headOf x), length (contentsBytes x))
+unfolding run
+judged room x g small ys =
+    let n = length (contentsBytes x) in
+    ap (λ (l : Layout Head). told (run l (contentsBytes x ++ ys))) (whole-transaction room)
+    ∙ (let r = run (wholeAt room 0 (λ h at. accept (h at))) (contentsBytes x ++ ys) in ap (λ (m : ℕ). (r .answer, m)) (sym (zero-add (r .taken))))
+    ∙ whole-codes room .judged x g small 0 (λ h at. accept (h at)) ys
+    ∙ λ j. limited (fieldsOf 0 x) (finished (headBy room x (zero-add n j)), (add-zero (0 + n) ∙ zero-add n) j)
+
+-- and comes to each of its sites behind the bytes before it
+pub reached : (room : Room) (x : Contents) → Formed room x → length (contentsBytes x) < 2 ^ 64 → Every (Comes (transaction room) (contentsBytes x) 0) (sitesOf room 0 x)
+reached room x g small = subst (λ (l : Layout Head). Every (Comes l (contentsBytes x) 0) (sitesOf room 0 x)) (sym (whole-transaction room)) (whole-codes room .reach x g small 0 (λ h at. accept (h at)))
 
 -- what a finished reading began with
 pub record Found (room : Room) (xs : List ℕ) : Type 0 where

@@ -6,6 +6,8 @@
 --     Contents      a transaction as what it holds: its bytes, and what is allowed
 --     Records       its head numbers and records
 --     Refusals      what the bytes taken show where a reading refuses
+--     Fields        where each field starts and ends, and refusal 2 by them
+--     Sites         where counts, lengths, prefixes and issuances start
 --     Moments       when each number enters, and the tables so far
 --     Outline       what it holds, with each part that doesn't bear replaced by its length
 --     Writing       from head numbers, tables and source to bytes, or a refusal; the fee question
@@ -18,6 +20,8 @@ pub mod Outcome
 pub mod Contents
 pub mod Records
 pub mod Refusals
+pub mod Fields
+pub mod Sites
 pub mod Moments
 pub mod Outline
 pub mod Writing

@@ -10,7 +10,8 @@ use Rattle.layout.specs.Outcome.{Tables}
 use Rattle.layout.specs.Writing as writing
 use Rattle.layout.specs.Writing.{_!_, over, isFee}
 use Rattle.takzulit.specs.Numbers.{packedState, headOf, Started, started, starting, Shown, shown, Kept, kept, feeding, finishing, reading, strictReading, lengthAsked, Wrote, wrote, writes}
-use Rattle.wrong.proofs.Loads.{computes, hex, apart, former, zeroed, bare, flagged, paying, start, after, left, input, output}
+use Rattle.loads.proofs.Loads.{hex}
+use Rattle.wrong.proofs.Loads.{computes, apart, former, zeroed, bare, flagged, paying, start, after, left, input, output}
 use Rattle.wrong.proofs.Write.{writes as written, pegin, bad, source, marked}
 
 -- what the caller's arrays held before the call

@@ -9,7 +9,8 @@ use lib.ListN.{replicate, getD, set, take}
 use Rattle.decoders.specs.Machine.{State, field}
 use Rattle.decoders.specs.Range.{inRange}
 use Rattle.decoders.specs.Feeding.{tables, cleared, begun, pushed}
-use Rattle.wrong.proofs.Loads.{hex, computes}
+use Rattle.loads.proofs.Loads.{hex}
+use Rattle.wrong.proofs.Loads.{computes}
 
 -- ---- a state as 20 numbers, in the order of docs/STATE.md
 

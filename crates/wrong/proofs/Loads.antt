@@ -1,43 +1,26 @@
 -- The loads on which wrong programs are refuted, the states and tables they start from, and what tells two outcomes apart.
-use Prim.Native.Nat.{ℕ, _+_, _-_, _*_}
-use Prim.Native.Char.{code}
-use Prim.Native.String.{String, [] as nothing, _∷_ as _then_}
+use Prim.Native.Nat.{ℕ}
 use mathlib.Core.Path.{_≡_, refl, sym, _∙_, ap}
-use mathlib.Core.Bool.{Bool, true, false, cond}
+use mathlib.Core.Bool.{Bool, true, false}
 use mathlib.Core.List.{List, [], _∷_, _++_}
 use native.Mathlib.Omega.{arith}
-use lib.Dec.{ltb, eqb}
+use lib.Dec.{eqb}
 use lib.ListN.{replicate, getD}
 use borrow.Author.Tests.{eq-eqb}
 use Rattle.layout.specs.Number.{value}
 use Rattle.layout.specs.Layout.{run}
 use Rattle.layout.specs.Transaction.{transaction, allOnes, flagBit, vout, flags, within, furtherAt, opaqueAt, compactAt, countAt, bodyAt, valueAt, prefixedAt, each, issuanceAt, inputAt, outputAt, itemAt, stackAt, inputWitnessAt, outputWitnessAt}
 use Rattle.layout.specs.Outcome.{Tables, laid}
+use Rattle.loads.proofs.Loads.{hex}
 use Rattle.decoders.specs.declared.Answer.{Answer}
 use Rattle.decoders.specs.declared.Answer.the-variants.{Finished, More, Refused}
 use Rattle.decoders.specs.Machine.{State, opened, nextInput, nextOutput, witnessesEnd, nextOutputWitness, nextInputWitness, nextScriptItem, nextPeginItem, bodyEnds, emptied, bodyEntered, bodySeen, bodyOpened, lengthSettled, inputsCounted, outputsCounted, scriptCounted, peginCounted, compactSettled, firstSettled, furtherSettled, valuePart, assetPart, noncePart, amountNext, nullKeysNext, keysNext, assetNext, valueNext, nonceNext, sequenceNext, locktimeNext, littleSettled, bigSettled, opaqueSettled, settleBy, worth, entering, step, fed, answerOf, field, withField}
 use Rattle.decoders.specs.Range.{leastWidth, greatestWidth, size, ownBytes, fieldRange, exact, amongInputs, amongOutputs, amongWitnesses, inOpening, unwitnessed, inputNumbers, inInput, inputsNumbers, behindInputs, outputNumbers, inOutput, outputsNumbers, behindOutputs, witnessNumbers, inputWitnessNumbers, inInputWitness, stackNumbers, inStack, outputWitnessNumbers, inOutputWitness, endedRange, wholeFits, wholeRange, refusedRange, placedFits, inRange}
 use Rattle.decoders.specs.Feeding.{tables, cleared, begun, gate, closed, pushed, finish, follow, ended}
 
--- ---- bytes: two hexadecimal digits each; spaces are for the eye
-
-unfoldable pub digits : String → List ℕ
-digits nothing = []
-digits (c then s) =
-    let rest = digits s in
-    cond (eqb (code c) 32) rest ((code c - cond (ltb (code c) 58) 48 87) ∷ rest)
-
-unfoldable pub paired : List ℕ → List ℕ
-paired [] = []
-paired (a ∷ []) = []
-paired (a ∷ b ∷ ds) = (16 * a + b) ∷ paired ds
-
-abbrev pub hex : String → List ℕ
-hex s = paired (digits s)
-
 -- Where this is unfolded, promises compute.
 unfoldable pub computes : Unit {0}
-unfolding digits paired value run laid
+unfolding hex value run laid
     within furtherAt opaqueAt compactAt countAt bodyAt valueAt prefixedAt each allOnes flagBit vout flags
     issuanceAt inputAt outputAt itemAt stackAt inputWitnessAt outputWitnessAt transaction
     opened nextInput nextOutput witnessesEnd nextOutputWitness nextInputWitness nextScriptItem nextPeginItem bodyEnds

@@ -11,7 +11,8 @@ use Rattle.decoders.specs.declared.Answer.the-variants.{Finished, More, Refused
 use Rattle.decoders.specs.Machine.{State, machine, refuse, fed, field, setVersion, setIssuance}
 use Rattle.decoders.specs.Feeding.{sizes, tables, sizesOf, cleared, gate, closed, Out, out, pushed, ended}
 use Rattle.decoders.specs.Needs.{headTold}
-use Rattle.wrong.proofs.Loads.{computes, hex, apart, kind, inputsTold, versionTold, countsSwapped, endsSwapped, former, zeroed, bare, flagged, paying, spending, broken, start, after, left, forged, longer, input, output, item}
+use Rattle.loads.proofs.Loads.{hex}
+use Rattle.wrong.proofs.Loads.{computes, apart, kind, inputsTold, versionTold, countsSwapped, endsSwapped, former, zeroed, bare, flagged, paying, spending, broken, start, after, left, forged, longer, input, output, item}
 use Rattle.wrong.proofs.Outs.{answer, case, taken, butState, butTaken, butAnswer, butTables, isRefused}
 
 -- what a wrong program gives at a load, and what is promised there, can't be the same

@@ -11,7 +11,8 @@ use Rattle.decoders.specs.declared.Answer.the-variants.{Finished, More, Refused
 use Rattle.decoders.specs.Machine.{machine, fresh, fed}
 use Rattle.decoders.specs.Feeding.{tables, sizesOf, cleared, begun, closed, pushed, Whole, readOnce, readStrict}
 use Rattle.decoders.specs.Needs.{headTold}
-use Rattle.wrong.proofs.Loads.{computes, hex, apart, kind, inputsTold, versionTold, countsSwapped, endsSwapped, former, bare, flagged, paying, broken, input, output, item}
+use Rattle.loads.proofs.Loads.{hex}
+use Rattle.wrong.proofs.Loads.{computes, apart, kind, inputsTold, versionTold, countsSwapped, endsSwapped, former, bare, flagged, paying, broken, input, output, item}
 use Rattle.layout.specs.Number.{value, little}
 use Rattle.wrong.proofs.Wholes.{answer, case, taken, gives, butTaken, butAnswer, butTables}
 

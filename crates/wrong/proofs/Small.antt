@@ -11,7 +11,8 @@ use Rattle.encode.specs.declared.Count.{Count}
 use Rattle.encode.specs.declared.Count.the-variants.{Value, Refused}
 use Rattle.encode.specs.Count.{answerOf, counted}
 use Rattle.confidential.specs.Width.{valueWidth, assetWidth, nonceWidth}
-use Rattle.wrong.proofs.Loads.{computes, hex, apart}
+use Rattle.loads.proofs.Loads.{hex}
+use Rattle.wrong.proofs.Loads.{computes, apart}
 
 -- a refusal's number, or 100 and the value
 abbrev number : Answer ℕ → ℕ

@@ -11,7 +11,8 @@ use Rattle.decoders.specs.declared.Answer.the-variants.{Finished, More, Refused
 use Rattle.decoders.specs.Machine.{machine, fresh, fed}
 use Rattle.decoders.specs.Feeding.{tables, sizesOf, cleared, begun, closed, pushed, Whole, readOnce, readStrict}
 use Rattle.decoders.specs.Needs.{headTold}
-use Rattle.wrong.proofs.Loads.{computes, hex, apart, placed, kind, former, bare, flagged, paying, full, broken, input, output, item}
+use Rattle.loads.proofs.Loads.{hex}
+use Rattle.wrong.proofs.Loads.{computes, apart, placed, kind, former, bare, flagged, paying, full, broken, input, output, item}
 use Rattle.wrong.proofs.Wholes.{answer, case, taken, gives, butTaken, butAnswer, butTables}
 
 abbrev Wrong : (Tables → List ℕ → Whole) → Tables → List ℕ → Type 0

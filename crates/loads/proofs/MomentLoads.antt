@@ -4,11 +4,11 @@ use Prim.Native.Nat.{ℕ}
 use mathlib.Core.Path.{_≡_, refl, ap}
 use mathlib.Core.List.{List, [], _∷_, map}
 use lib.ListN.{take}
 use Rattle.layout.specs.Layout.{more, reading, input, output, item}
 use Rattle.layout.specs.Transaction.{entry}
 use Rattle.layout.specs.Outcome.{Sizes, Outcome, zeros, laid, outcome, readingOf, partial}
 use Rattle.layout.proofs.Timed.{Timed, timed, entered, by}
-use Rattle.layout.proofs.Loads.{sizes, computes, everything}
+use Rattle.loads.proofs.Loads.{sizes, computes, everything}
 
 -- bytes taken; table, record, column; numbers
 abbrev entries : List Timed

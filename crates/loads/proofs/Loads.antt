@@ -6,7 +6,7 @@
 --     bearing-bytes   which bytes of that one are bearing, and bearing-cut of cut ones
 --     edges, limits   loads that pin one rule each: what is refused first, what a table holds so far, where the limits lie
 --     locktime-ends, locktime-limit   the locktime at the limit, of whole transactions of 4,000,000 bytes
---     behind-long     positions behind a script of 65,536 bytes; no-sooner, witness-limit: the limit behind an input's script
+--     behind-long     positions behind a script of 65,536 bytes; no-sooner, witness-limit, vout-limit: the limit behind an input's script
 use Prim.Native.Nat.{ℕ, zero, suc, _+_, _-_, _*_, _^_}
 use Prim.Native.Char.{code}
 use Prim.Native.String.{String, [] as nothing, _∷_ as _then_}
@@ -766,3 +766,17 @@ witness-limit script e =
     ap (λ (r : Reading Head). answers (r .answer) (r .taken))
     (cut (transaction (roomOf one)) (toInput "01" "c8083d00") (script ++ hex "ffffffff 00 00000000")
     ∙ ap (chain (readingOf one (toInput "01" "c8083d00"))) (scripted 3999944 (pastBody (rest (transaction (roomOf one)) (toInput "01" "c8083d00"))) script (hex "ffffffff 00 00000000") e))
+
+-- A second input whose vout stands at 3,999,993: refused at its sequence's start, and not sooner, at its vout.
+abbrev toFirst : List ℕ
+toFirst = hex "02000000 00 02" ++ hidden 32 ++ hex "00000000 fea6083d00"
+
+abbrev toSequence : List ℕ
+toSequence = hex "ffffffff" ++ hidden 32 ++ hex "00000000 00"
+
+vout-limit : (script : List ℕ) → length script ≡ 3999910 → answerIn (sizes 40 14 2) (toFirst ++ (script ++ toSequence)) ≡ answers (refused 2 3999998) 3999998
+unfolding computes rest
+vout-limit script e =
+    ap (λ (r : Reading Head). answers (r .answer) (r .taken))
+    (cut (transaction (roomOf (sizes 40 14 2))) toFirst (script ++ toSequence)
+    ∙ ap (chain (readingOf (sizes 40 14 2) toFirst)) (scripted 3999910 (pastBody (rest (transaction (roomOf (sizes 40 14 2))) toFirst)) script toSequence e))

@@ -10,12 +10,12 @@ use mathlib.Core.Path.{_≡_, refl}
 use mathlib.Core.Bool.{true, false}
 use mathlib.Core.List.{List, [], _∷_, _++_, map}
 use lib.ListN.{length, replicate, set}
 use Rattle.layout.specs.Number.{bytesOf}
 use Rattle.layout.specs.Outcome.{partial}
 use Rattle.layout.specs.Contents.{Contents, compactBytes, flat, bodyBytes, listBytes, valueBytes, tokenBytes, issuanceBytes, inputBytes, outputBytes, inputWitnessBytes, outputWitnessBytes, witnessesBytes, contentsBytes, confused, all}
 use Rattle.layout.specs.Records.{sum, placed, placedWitnesses, witnessesItems, beside, headOf, tablesOf}
 use Rattle.layout.specs.Writing.{records, body, valueOf, tokenOf, inputOf, outputOf, itemOf, inputWitnessOf, outputWitnessOf, contentsOf, valueRule, zeros₇, issuanceRule, inputWitnessRule, inputRule, tokenRule, outputWitnessRule, outputRule, itemRule, inputFault, inputFaults, ruleFaults, tableFaults, faults, Verdict, wrote, unwritten, over, Written, writtenLength, writing, isFee, verdictNumber, verdictPlace, verdictLength}
-use Rattle.layout.proofs.Loads.{computes, everything, hex, hidden, oneAndOne, sizes, head, tables}
+use Rattle.loads.proofs.Loads.{computes, everything, hex, hidden, oneAndOne, sizes, head, tables}
 
 -- Where this is unfolded, writing computes.
 writes : Unit {0}

@@ -1,0 +1,104 @@
+-- Where a transaction's counts, lengths, prefixes and issuances start: the sites of refusals 3 to 6, and of 2 for further bytes and bodies.
+use Prim.Native.Nat.{ℕ, _+_, _-_, _^_, _<_, _≤_}
+use mathlib.Core.Path.{_≡_}
+use mathlib.Core.Bool.{Bool, false}
+use mathlib.Core.List.{List, [], _∷_, _++_}
+use mathlib.Core.Option.{Option, none, some}
+use lib.ListN.{length}
+use Rattle.layout.specs.Number.{little, bytesOf}
+use Rattle.layout.specs.Layout.{Answer, refused}
+use Rattle.layout.specs.Transaction.{Head, Room, limit, announced, least}
+use Rattle.layout.specs.Outcome.{Sizes, partial}
+use Rattle.layout.specs.Refusals.{listedValue, listedAsset, listedNonce}
+use Rattle.layout.specs.Contents.{Value, Token, Issuance, Input, Output, InputWitness, OutputWitness, Witnesses, Contents, compactBytes, flat, bodyBytes, listBytes, valueBytes, tokenBytes, inputBytes, outputBytes, inputWitnessBytes, outputWitnessBytes, Fixed}
+
+-- A count, and the records left in its table; a length; a value, an asset and a nonce; an issuance.
+pub data What : Type 0 where
+  counts : ℕ → What
+  lengths : What
+  values : What
+  assets : What
+  nonces : What
+  issuances : What
+
+pub record Site : Type 0 where
+  pub at : ℕ
+  pub what : What
+
+abbrev pub site : ℕ → What → Site
+site at what = record { at = at; what = what }
+
+unfoldable pub sitesEach : {X : Type 0} → (X → List ℕ) → (ℕ → X → List Site) → ℕ → List X → List Site
+sitesEach bytes sites at [] = []
+sitesEach bytes sites at (x ∷ xs) = sites at x ++ sitesEach bytes sites (at + length (bytes x)) xs
+
+abbrev pub bodySites : ℕ → List ℕ → List Site
+bodySites at xs = site at lengths ∷ []
+
+-- Count, then so many.
+abbrev pub listSites : {X : Type 0} → ℕ → (X → List ℕ) → (ℕ → X → List Site) → ℕ → List X → List Site
+listSites left bytes sites at xs = (site at (counts left) ∷ []) ++ sitesEach bytes sites (at + length (compactBytes (length xs))) xs
+
+abbrev pub issuanceSites : ℕ → Option Issuance → List Site
+issuanceSites at none = []
+issuanceSites at (some x) = site at issuances ∷ site (at + 64) values ∷ site (at + 64 + length (valueBytes (x .amount))) values ∷ []
+
+abbrev pub inputSites : ℕ → Input → List Site
+inputSites at x = bodySites (at + 36) (x .script) ++ issuanceSites (at + 36 + length (bodyBytes (x .script)) + 4) (x .issuance)
+
+abbrev pub outputSites : ℕ → Output → List Site
+outputSites at x =
+    let at₁ = at + length (tokenBytes (x .asset)) in
+    let at₂ = at₁ + length (valueBytes (x .value)) in
+    let at₃ = at₂ + length (tokenBytes (x .nonce)) in
+    site at assets ∷ site at₁ values ∷ site at₂ nonces ∷ bodySites at₃ (x .script)
+
+-- The items of earlier stacks are in the table already.
+abbrev pub inputWitnessSites : ℕ → ℕ → ℕ → InputWitness → List Site
+inputWitnessSites room first at x =
+    let at₁ = at + length (bodyBytes (x .amountProof)) in
+    let at₂ = at₁ + length (bodyBytes (x .keysProof)) in
+    let at₃ = at₂ + length (listBytes bodyBytes (x .scriptItems)) in
+    bodySites at (x .amountProof)
+    ++ (bodySites at₁ (x .keysProof)
+    ++ (listSites (room - first) bodyBytes bodySites at₂ (x .scriptItems)
+    ++ listSites (room - (first + length (x .scriptItems))) bodyBytes bodySites at₃ (x .peginItems)))
+
+unfoldable pub inputWitnessesSites : ℕ → ℕ → ℕ → List InputWitness → List Site
+inputWitnessesSites room first at [] = []
+inputWitnessesSites room first at (x ∷ xs) = inputWitnessSites room first at x ++ inputWitnessesSites room (first + length (x .scriptItems) + length (x .peginItems)) (at + length (inputWitnessBytes x)) xs
+
+abbrev pub outputWitnessSites : ℕ → OutputWitness → List Site
+outputWitnessSites at x = bodySites at (x .surjectionProof) ++ bodySites (at + length (bodyBytes (x .surjectionProof))) (x .rangeProof)
+
+abbrev pub witnessesSites : ℕ → ℕ → Option Witnesses → List Site
+witnessesSites room at none = []
+witnessesSites room at (some x) = inputWitnessesSites room 0 at (x .inputs) ++ sitesEach outputWitnessBytes outputWitnessSites (at + length (flat inputWitnessBytes (x .inputs))) (x .outputs)
+
+abbrev pub sitesOf : Room → ℕ → Contents → List Site
+sitesOf room at x =
+    let at₁ = at + 5 in
+    let at₂ = at₁ + length (listBytes inputBytes (x .inputs)) in
+    let at₃ = at₂ + length (listBytes outputBytes (x .outputs)) in
+    listSites (room .inputs) inputBytes inputSites at₁ (x .inputs) ++ (listSites (room .outputs) outputBytes outputSites at₂ (x .outputs) ++ witnessesSites (room .items) (at₃ + 4) (x .witnesses))
+
+-- ---- what is refused at a site, behind the bytes in front of it
+
+-- Whatever follows, these bytes are refused with this number and place, and taken.
+abbrev pub Refuses : Sizes → List ℕ → List ℕ → ℕ → ℕ → Type 0
+Refuses z front bytes number place = (ys : List ℕ) → let o = partial z (front ++ (bytes ++ ys)) in _≡_ {A = Answer Head × ℕ} (o .answer, o .taken) (refused number place, length front + length bytes)
+
+-- Further bytes would end past 4,000,000: 2, with the first byte. Not in shortest form: 3, with the last.
+pub record CompactFaults (z : Sizes) (front : List ℕ) (at : ℕ) : Type 0 where
+  pub two : (first : ℕ) → first < 256 → 252 < first → at + 1 ≤ limit → limit < at + 1 + announced first → Refuses z front (first ∷ []) 2 at
+  pub three : (first n : ℕ) → first < 256 → 252 < first → n < least (announced first) → n < 256 ^ announced first → at + 1 + announced first ≤ limit → Refuses z front (first ∷ bytesOf little (announced first) n) 3 at
+
+-- A count above the records left: 4, with its last byte. A body that would end past 4,000,000: 2, with its length's last byte. A prefix that is not listed: 5.
+-- An issuance whose values are null: 6, with the second one.
+abbrev pub Faults : Sizes → List ℕ → ℕ → What → Type 0
+Faults z front at (counts left) = CompactFaults z front at × ((n : ℕ) → n < 2 ^ 64 → left < n → at + length (compactBytes n) ≤ limit → Refuses z front (compactBytes n) 4 at)
+Faults z front at lengths = CompactFaults z front at × ((n : ℕ) → n < 2 ^ 64 → at + length (compactBytes n) ≤ limit → limit < at + length (compactBytes n) + n → Refuses z front (compactBytes n) 2 at)
+Faults z front at values = (p : ℕ) → p < 256 → listedValue p ≡ false → at + 1 ≤ limit → Refuses z front (p ∷ []) 5 at
+Faults z front at assets = (p : ℕ) → p < 256 → listedAsset p ≡ false → at + 1 ≤ limit → Refuses z front (p ∷ []) 5 at
+Faults z front at nonces = (p : ℕ) → p < 256 → listedNonce p ≡ false → at + 1 ≤ limit → Refuses z front (p ∷ []) 5 at
+Faults z front at issuances = (nonce entropy : List ℕ) → Fixed 32 nonce → Fixed 32 entropy → at + 66 ≤ limit → Refuses z front (nonce ++ (entropy ++ (0 ∷ 0 ∷ []))) 6 at
