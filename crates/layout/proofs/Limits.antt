@@ -23,7 +23,7 @@ limited-ends (f ∷ fs) h n e =
     (λ t. limited-ends fs h n (rw t at e))
     (λ t. refused-not-more (rw t at e))
 
--- A transaction that 01 allows but for its length, which may be any that 8 bytes tell: the answer to its first bytes, and to all of them with any behind.
+-- A transaction that 01 allows but for its length, of fewer than 2^64 bytes: the answer to its first bytes, and to all of them with any behind.
 pub limit-exactly : (z : Sizes) (x : Contents) → Formed (roomOf z) x → length (contentsBytes x) < 2 ^ 64 → (xs ys behind : List ℕ) → xs ++ ys ≡ contentsBytes x ++ behind → let v = limited (fieldsOf 0 x) (finished (headOf x), length (contentsBytes x)) in _≡_ {A = Answer Head × ℕ} (partial z xs .answer, partial z xs .taken) (cond (leb (v .1) (length xs)) v (more, length xs))
 limit-exactly z x g small xs ys behind e =
     let l = transaction (roomOf z) in

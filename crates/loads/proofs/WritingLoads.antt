@@ -1,5 +1,6 @@
 -- Writing, computed. Every number told on a right side was worked out from document 01.
 --     everything-back, load-96-back   accepted loads written back, with the output's tail
+--     everything-sites                where a fault can stand in it
 --     refusals                        each number that writing gives, by each of its causes, and what is judged first
 --     scattered                       every body from where its own number says
 --     verdicts                        01's number, place and length of each answer
@@ -11,7 +12,8 @@ use mathlib.Core.Bool.{true, false}
 use mathlib.Core.List.{List, [], _∷_, _++_, map}
 use lib.ListN.{length, replicate, set}
 use Rattle.layout.specs.Number.{bytesOf}
-use Rattle.layout.specs.Outcome.{partial}
+use Rattle.layout.specs.Outcome.{partial, roomOf}
+use Rattle.layout.specs.Sites.{counts, lengths, values, assets, nonces, issuances, site, sitesEach, inputWitnessesSites, sitesOf}
 use Rattle.layout.specs.Contents.{Contents, compactBytes, flat, bodyBytes, listBytes, valueBytes, tokenBytes, issuanceBytes, inputBytes, outputBytes, inputWitnessBytes, outputWitnessBytes, witnessesBytes, contentsBytes, confused, all}
 use Rattle.layout.specs.Records.{sum, placed, placedWitnesses, witnessesItems, beside, headOf, tablesOf}
 use Rattle.layout.specs.Writing.{records, body, valueOf, tokenOf, inputOf, outputOf, itemOf, inputWitnessOf, outputWitnessOf, contentsOf, valueRule, zeros₇, issuanceRule, inputWitnessRule, inputRule, tokenRule, outputWitnessRule, outputRule, itemRule, inputFault, inputFaults, ruleFaults, tableFaults, faults, Verdict, wrote, unwritten, over, Written, writtenLength, writing, isFee, verdictNumber, verdictPlace, verdictLength}
@@ -30,6 +32,19 @@ everything-back :
     writing (head 16909060 1 3 4 4 168496141 0) t everything (replicate 908 7) ≡ record { answer = wrote 907; output = everything ++ (7 ∷ []) }
 unfolding writes everything
 everything-back = refl
+
+-- Where a fault can stand in it, in tables for 3 inputs, 4 outputs and 4 items: each count with the records left, each length, prefix and issuance.
+everything-sites :
+    let z = sizes 60 56 8 in
+    sitesOf (roomOf z) 0 (contentsOf (head 16909060 1 3 4 4 168496141 0) (partial z everything .tables) everything) ≡
+    site 5 (counts 3) ∷ site 42 lengths ∷ site 50 issuances ∷ site 114 values ∷ site 123 values ∷ site 192 lengths ∷ site 233 lengths ∷ site 240 issuances ∷ site 304 values ∷ site 305 values ∷
+    site 314 (counts 4) ∷ site 315 assets ∷ site 348 values ∷ site 357 nonces ∷ site 358 lengths ∷ site 359 assets ∷ site 392 values ∷ site 425 nonces ∷ site 458 lengths ∷
+    site 463 assets ∷ site 496 values ∷ site 529 nonces ∷ site 562 lengths ∷ site 564 assets ∷ site 565 values ∷ site 566 nonces ∷ site 599 lengths ∷
+    site 859 lengths ∷ site 862 lengths ∷ site 864 (counts 4) ∷ site 865 lengths ∷ site 869 lengths ∷ site 870 (counts 2) ∷ site 871 lengths ∷
+    site 877 lengths ∷ site 878 lengths ∷ site 879 (counts 1) ∷ site 880 (counts 1) ∷ site 881 lengths ∷ site 882 lengths ∷ site 885 (counts 1) ∷ site 886 lengths ∷ site 888 (counts 0) ∷
+    site 889 lengths ∷ site 890 lengths ∷ site 891 lengths ∷ site 895 lengths ∷ site 898 lengths ∷ site 900 lengths ∷ site 901 lengths ∷ site 902 lengths ∷ []
+unfolding writes everything sitesEach inputWitnessesSites
+everything-sites = refl
 
 load-96-back :
     let t = partial (sizes 25 14 2) (oneAndOne "00" "") .tables in
