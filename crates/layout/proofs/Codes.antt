@@ -1,26 +1,26 @@
 -- A part of the layout and the contents that it codes, both ways at once, and the ways of putting parts together.
 --     forth   reading the bytes of good contents, and anything behind them, goes on behind them with the part's entries
 --     back    where a reading finishes, it began with the bytes of some good contents, and goes on behind them
---     traced  reading the bytes of good contents does this in order, and goes on behind them
+--     traced  reading the bytes of good contents, of whatever length, does this in order, and goes on behind them; or stops, where they end past the limit
 --     judged  of whatever length, its first field that would end past the limit is refused; if there is none, it goes on
-use Prim.Native.Nat.{ℕ, zero, suc, _+_, _-_, _*_, _^_, _<_, _≤_}
+use Prim.Native.Nat.{ℕ, zero, suc, _+_, _-_, _^_, _<_, _≤_}
 use mathlib.Core.Path.{_≡_, refl, sym, _∙_, ap, ap₂, subst}
 use mathlib.Core.Bool.{Bool, true, false, cond}
-use mathlib.Core.List.{List, [], _∷_, _++_, append-assoc, append-nil}
+use mathlib.Core.List.{List, [], _∷_, _++_, append-assoc}
 use native.Mathlib.Nat.{add-assoc, add-zero, zero-add}
 use native.Mathlib.Omega.{arith}
 use lib.Dec.{leb}
-use lib.ListN.{length, take, drop, getD, length-append, length-take, length-drop, take-append-drop}
+use lib.ListN.{length, take, drop, length-append, take-append-drop}
 use lib.Seq.{take-at, drop-at, length-take-le, getD-append-add, take-append-le, take-append-add}
-use borrow.Author.Tests.{leb-true, leb-false, le-leb, lt-leb}
+use borrow.Author.Tests.{leb-true, leb-false, le-leb}
 use Rattle.layout.specs.Number.{Order, value, bytesOf, Bytes}
-use Rattle.layout.specs.Layout.{Layout, number, opaque, enter, refuse, accept, Answer, finished, more, refused, Reading, reading, behind, noted, Entry, Hidden, run}
-use Rattle.layout.specs.Transaction.{Head, limit, within, furtherAt, numberAt, opaqueAt, countAt, bodyAt, valueAt, prefixedAt, issuanceAt, assetPrefix, noncePrefix, each, alone}
+use Rattle.layout.specs.Layout.{Layout, number, opaque, enter, refuse, Answer, finished, more, refused, Reading, reading, behind, Entry, Hidden, run}
+use Rattle.layout.specs.Transaction.{Head, limit, within, furtherAt, opaqueAt, countAt, bodyAt, valueAt, prefixedAt, issuanceAt, assetPrefix, noncePrefix, each, alone}
 use Rattle.layout.specs.Contents.{Fixed, Every, flat, compactBytes, listBytes}
 use Rattle.layout.specs.Fields.{Field, field, fixed, fieldsEach, limited}
 use Rattle.layout.specs.Sites.{What, counts, lengths, values, assets, nonces, issuances, Site, site, sitesEach}
-use Rattle.layout.proofs.Number.{bytes-take, bytes-drop, value-bytes, bytes-value, length-bytes, bytes-bytes, value-small}
-use Rattle.layout.proofs.Trace.{Event, enters, entering, looked, passed, trace, met, fieldTrace, trace-there}
+use Rattle.layout.proofs.Number.{bytes-take, value-bytes, bytes-value, length-bytes, value-small}
+use Rattle.layout.proofs.Trace.{Event, enters, entering, looked, passed, trace, met, fieldTrace, trace-there, Goes, on, stops, goes-as, goes-past, goes-both}
 use Rattle.layout.proofs.Reading.{by-cases, fieldRun, field-there, field-case, finished-not-more, refused-not-finished}
 
 pub bytes-behind : (xs ys : List ℕ) → Bytes (xs ++ ys) → Bytes ys
@@ -58,13 +58,14 @@ pub record Comes (l : Layout Head) (bs : List ℕ) (at : ℕ) (s : Site) : Type 
   pub upto : s .at ≤ at + length bs
   pub next : Layout Head
   pub stands : Stand (s .what) (s .at) next
-  pub goes : s .at ≤ limit → (rest : List ℕ) → settled at (run l (take (s .at - at) bs ++ rest)) ≡ settled (s .at) (run next rest)
+  pub entered : List Entry
+  pub goes : s .at ≤ limit → (rest : List ℕ) → run l (take (s .at - at) bs ++ rest) ≡ after (s .at - at) entered (run next rest)
 
 every-both : {X : Type 0} (P : X → Type 0) (xs ys : List X) → Every P xs → Every P ys → Every P (xs ++ ys)
 every-both P [] ys a b = b
 every-both P (x ∷ xs) ys a b = (a .0, every-both P xs ys (a .1) b)
 
-every-as : {X : Type 0} (P Q : X → Type 0) → ((x : X) → P x → Q x) → (xs : List X) → Every P xs → Every Q xs
+pub every-as : {X : Type 0} (P Q : X → Type 0) → ((x : X) → P x → Q x) → (xs : List X) → Every P xs → Every Q xs
 every-as P Q f [] a = tt
 every-as P Q f (x ∷ xs) a = (f x (a .0), every-as P Q f xs (a .1))
 
@@ -80,12 +81,16 @@ pub record Began {X S : Type 0} (Good : X → Type 0) (bytes : X → List ℕ) (
   pub ends : at + length (bytes held) ≤ limit
   pub goes : Finishes (k (out held) (at + length (bytes held))) rest a
 
+-- what is done along some bytes; it may stop where they end past the limit
+abbrev pub Along : ℕ → List ℕ → List Event → List Event → List Event → Type 0
+Along at bs t es u = Goes (limit < at + length bs) t es u
+
 pub record Codes {X S : Type 0} (part : Part S) (Good : X → Type 0) (bytes : X → List ℕ) (log : ℕ → X → List Entry) (events : ℕ → X → List Event) (fields : ℕ → X → List Field) (sites : ℕ → X → List Site) (out : X → S) : Type 0 where
   pub forth : (x : X) → Good x → (at : ℕ) (k : S → ℕ → Layout Head) (ys : List ℕ) → at + length (bytes x) ≤ limit → run (part at k) (bytes x ++ ys) ≡ after (length (bytes x)) (log at x) (run (k (out x) (at + length (bytes x))) ys)
   pub back : (at : ℕ) (k : S → ℕ → Layout Head) (xs : List ℕ) (a : Head) → Bytes xs → at ≤ limit → Finishes (part at k) xs a → Began Good bytes out at k xs a
-  pub traced : (x : X) → Good x → (at : ℕ) (k : S → ℕ → Layout Head) (ys : List ℕ) → at + length (bytes x) ≤ limit → trace (part at k) (bytes x ++ ys) ≡ events at x ++ trace (k (out x) (at + length (bytes x))) ys
-  pub judged : (x : X) → Good x → length (bytes x) < 2 ^ 64 → (at : ℕ) (k : S → ℕ → Layout Head) (ys : List ℕ) → settled at (run (part at k) (bytes x ++ ys)) ≡ limited (fields at x) (settled (at + length (bytes x)) (run (k (out x) (at + length (bytes x))) ys))
-  pub reach : (x : X) → Good x → length (bytes x) < 2 ^ 64 → (at : ℕ) (k : S → ℕ → Layout Head) → Every (Comes (part at k) (bytes x) at) (sites at x)
+  pub traced : (x : X) → Good x → (at : ℕ) (k : S → ℕ → Layout Head) (ys : List ℕ) → Along at (bytes x) (trace (part at k) (bytes x ++ ys)) (events at x) (trace (k (out x) (at + length (bytes x))) ys)
+  pub judged : (x : X) → Good x → (at : ℕ) (k : S → ℕ → Layout Head) (ys : List ℕ) → settled at (run (part at k) (bytes x ++ ys)) ≡ limited (fields at x) (settled (at + length (bytes x)) (run (k (out x) (at + length (bytes x))) ys))
+  pub reach : (x : X) → Good x → (at : ℕ) (k : S → ℕ → Layout Head) → Every (Comes (part at k) (bytes x) at) (sites at x)
 
 -- what was held, as other contents
 pub began-as : {X Y S : Type 0} {Good : X → Type 0} {bytes : X → List ℕ} {out : X → S} {Good′ : Y → Type 0} {bytes′ : Y → List ℕ} {out′ : Y → S} {at : ℕ} {k : S → ℕ → Layout Head} {xs : List ℕ} {a : Head} (u : Began Good bytes out at k xs a) (y : Y) → Good′ y → bytes′ y ≡ bytes (u .held) → out′ y ≡ out (u .held) → Began Good′ bytes′ out′ at k xs a
@@ -136,7 +141,7 @@ module _ {X Y S T : Type 0} {P : Part S} {GoodP : X → Type 0} {bytesP : X → 
               ends = subst (λ (n : ℕ). n ≤ limit) e (v .ends);
               goes = subst (λ (n : ℕ). Finishes (k (outQ (u .held) (v .held)) n) (v .rest) a) e (v .goes);
             };
-        traced = λ z g at k ys h.
+        traced = λ z g at k ys.
             let x = z .0 in
             let y = z .1 in
             let b = bytesP x in
@@ -144,12 +149,11 @@ module _ {X Y S T : Type 0} {P : Part S} {GoodP : X → Type 0} {bytesP : X → 
             let both : length (b ++ c) ≡ length b + length c = length-append b c in
             let k′ : S → ℕ → Layout Head = λ s at′. Q at s at′ k in
             let e : at + length b + length c ≡ at + length (b ++ c) = omega arith in
-            ap (trace (P at k′)) (append-assoc b c ys)
-            ∙ p .traced x (g .0) at k′ (c ++ ys) (omega arith)
-            ∙ ap (λ (t : List Event). eventsP at x ++ t) (q at x (g .0) .traced y (g .1) (at + length b) k ys (omega arith))
-            ∙ sym (append-assoc (eventsP at x) (eventsQ at x (at + length b) y) (trace (k (outQ x y) (at + length b + length c)) ys))
-            ∙ ap (λ (n : ℕ). (eventsP at x ++ eventsQ at x (at + length b) y) ++ trace (k (outQ x y) n) ys) e;
-        judged = λ z g small at k ys.
+            goes-as (ap (trace (P at k′)) (append-assoc b c ys)) refl (ap (λ (n : ℕ). trace (k (outQ x y) n) ys) e)
+            (goes-both _ (eventsP at x) _ (eventsQ at x (at + length b) y) _ (λ h. omega arith) (λ h. omega arith)
+            (p .traced x (g .0) at k′ (c ++ ys))
+            (q at x (g .0) .traced y (g .1) (at + length b) k ys));
+        judged = λ z g at k ys.
             let x = z .0 in
             let y = z .1 in
             let b = bytesP x in
@@ -158,11 +162,11 @@ module _ {X Y S T : Type 0} {P : Part S} {GoodP : X → Type 0} {bytesP : X → 
             let k′ : S → ℕ → Layout Head = λ s at′. Q at s at′ k in
             let e : at + length b + length c ≡ at + length (b ++ c) = omega arith in
             ap (λ (l : List ℕ). settled at (run (P at k′) l)) (append-assoc b c ys)
-            ∙ p .judged x (g .0) (omega arith) at k′ (c ++ ys)
-            ∙ ap (limited (fieldsP at x)) (q at x (g .0) .judged y (g .1) (omega arith) (at + length b) k ys)
+            ∙ p .judged x (g .0) at k′ (c ++ ys)
+            ∙ ap (limited (fieldsP at x)) (q at x (g .0) .judged y (g .1) (at + length b) k ys)
             ∙ ap (λ (n : ℕ). limited (fieldsP at x) (limited (fieldsQ at x (at + length b) y) (settled n (run (k (outQ x y) n) ys)))) e
             ∙ sym (limited-append (fieldsP at x) (fieldsQ at x (at + length b) y) (settled (at + length (b ++ c)) (run (k (outQ x y) (at + length (b ++ c))) ys)));
-        reach = λ z g small at k.
+        reach = λ z g at k.
             let x = z .0 in
             let y = z .1 in
             let b = bytesP x in
@@ -176,25 +180,27 @@ module _ {X Y S T : Type 0} {P : Part S} {GoodP : X → Type 0} {bytesP : X → 
               upto = omega (arith, w .upto);
               next = w .next;
               stands = w .stands;
-              goes = λ h rest. ap (λ (l : List ℕ). settled at (run (P at k′) (l ++ rest))) (take-append-le (s .at - at) b c (omega (arith, w .upto, w .from))) ∙ w .goes h rest;
-            }) (sitesP at x) (p .reach x (g .0) (omega arith) at k′))
+              entered = w .entered;
+              goes = λ h rest. ap (λ (l : List ℕ). run (P at k′) (l ++ rest)) (take-append-le (s .at - at) b c (omega (arith, w .upto, w .from))) ∙ w .goes h rest;
+            }) (sitesP at x) (p .reach x (g .0) at k′))
             (every-as (Comes (Q at (outP x) (at + length b) k) c (at + length b)) (Comes (P at k′) (b ++ c) at) (λ s w.
             record {
               from = omega (arith, w .from);
               upto = omega (arith, w .upto);
               next = w .next;
               stands = w .stands;
+              entered = logP at x ++ w .entered;
               goes = λ h rest.
                   let d = s .at - (at + length b) in
                   let e : s .at - at ≡ length b + d = omega (arith, w .from) in
-                  let r = run (Q at (outP x) (at + length b) k) (take d c ++ rest) in
-                  ap (λ (n : ℕ). settled at (run (P at k′) (take n (b ++ c) ++ rest))) e
-                  ∙ ap (λ (l : List ℕ). settled at (run (P at k′) (l ++ rest))) (take-append-add b c d)
-                  ∙ ap (λ (l : List ℕ). settled at (run (P at k′) l)) (append-assoc b (take d c) rest)
-                  ∙ ap (settled at) (p .forth x (g .0) at k′ (take d c ++ rest) (omega (arith, w .from)))
-                  ∙ ap (λ (n : ℕ). (r .answer, n)) (sym (add-assoc at (length b) (r .taken)))
-                  ∙ w .goes h rest;
-            }) (sitesQ at x (at + length b) y) (q at x (g .0) .reach y (g .1) (omega arith) (at + length b) k));
+                  let r = run (w .next) rest in
+                  ap (λ (n : ℕ). run (P at k′) (take n (b ++ c) ++ rest)) e
+                  ∙ ap (λ (l : List ℕ). run (P at k′) (l ++ rest)) (take-append-add b c d)
+                  ∙ ap (run (P at k′)) (append-assoc b (take d c) rest)
+                  ∙ p .forth x (g .0) at k′ (take d c ++ rest) (omega (arith, w .from))
+                  ∙ ap (after (length b) (logP at x)) (w .goes h rest)
+                  ∙ ap₂ (λ (n : ℕ) (es : List Entry). reading (r .answer) n es) (omega arith) (sym (append-assoc (logP at x) (w .entered) (r .log)));
+            }) (sitesQ at x (at + length b) y) (q at x (g .0) .reach y (g .1) (at + length b) k));
       }
 
 -- a part whose entry follows it, and one whose result is tested
@@ -209,10 +215,9 @@ module _ {X S : Type 0} {P : Part S} {Good : X → Type 0} {bytes : X → List �
         back = λ at k xs a bs h f.
             let u = p .back at (λ s at′. enter (e at s) (k s at′)) xs a bs h f in
             record { held = u .held; rest = u .rest; good = u .good; same = u .same; ends = u .ends; goes = u .goes };
-        traced = λ x g at k ys h.
-            p .traced x g at (λ s at′. enter (e at s) (k s at′)) ys h ∙ sym (append-assoc (events at x) (enters (e at (out x)) ∷ []) (trace (k (out x) (at + length (bytes x))) ys));
-        judged = λ x g small at k ys. p .judged x g small at (λ s at′. enter (e at s) (k s at′)) ys;
-        reach = λ x g small at k. p .reach x g small at (λ s at′. enter (e at s) (k s at′));
+        traced = λ x g at k ys. goes-both {past′ = ⊥} _ (events at x) _ (enters (e at (out x)) ∷ []) _ (λ h. h) (λ h. absurd h) (p .traced x g at (λ s at′. enter (e at s) (k s at′)) ys) (on refl);
+        judged = λ x g at k ys. p .judged x g at (λ s at′. enter (e at s) (k s at′)) ys;
+        reach = λ x g at k. p .reach x g at (λ s at′. enter (e at s) (k s at′));
       }
 
   pub passing : (t : S → Bool) (n : ℕ) (place : ℕ → ℕ) → Codes P Good bytes log events fields sites out → Codes (λ at k. P at (λ s at′. cond (t s) (k s at′) (refuse n (place at)))) (λ x. Good x × (t (out x) ≡ true)) bytes log events fields sites out
@@ -228,13 +233,13 @@ module _ {X S : Type 0} {P : Part S} {Good : X → Type 0} {bytes : X → List �
             by-cases (t (out (u .held)))
             (λ e. record { held = u .held; rest = u .rest; good = (u .good, e); same = u .same; ends = u .ends; goes = subst (λ (b : Bool). Finishes (cond b go (refuse n (place at))) (u .rest) a) e (u .goes) })
             (λ e. absurd (refused-not-finished (subst (λ (b : Bool). Finishes (cond b go (refuse n (place at))) (u .rest) a) e (u .goes))));
-        traced = λ x g at k ys h.
-            p .traced x (g .0) at (λ s at′. cond (t s) (k s at′) (refuse n (place at))) ys h
-            ∙ ap (λ (b : Bool). events at x ++ trace (cond b (k (out x) (at + length (bytes x))) (refuse n (place at))) ys) (g .1);
-        judged = λ x g small at k ys.
-            p .judged x (g .0) small at (λ s at′. cond (t s) (k s at′) (refuse n (place at))) ys
+        traced = λ x g at k ys.
+            goes-as refl refl (ap (λ (b : Bool). trace (cond b (k (out x) (at + length (bytes x))) (refuse n (place at))) ys) (g .1))
+            (p .traced x (g .0) at (λ s at′. cond (t s) (k s at′) (refuse n (place at))) ys);
+        judged = λ x g at k ys.
+            p .judged x (g .0) at (λ s at′. cond (t s) (k s at′) (refuse n (place at))) ys
             ∙ ap (λ (b : Bool). limited (fields at x) (settled (at + length (bytes x)) (run (cond b (k (out x) (at + length (bytes x))) (refuse n (place at))) ys))) (g .1);
-        reach = λ x g small at k. p .reach x (g .0) small at (λ s at′. cond (t s) (k s at′) (refuse n (place at)));
+        reach = λ x g at k. p .reach x (g .0) at (λ s at′. cond (t s) (k s at′) (refuse n (place at)));
       }
 
   pub failing : (t : S → Bool) (n place : ℕ) → Codes P Good bytes log events fields sites out → Codes (λ at k. P at (λ s at′. cond (t s) (refuse n place) (k s at′))) (λ x. Good x × (t (out x) ≡ false)) bytes log events fields sites out
@@ -250,20 +255,20 @@ module _ {X S : Type 0} {P : Part S} {Good : X → Type 0} {bytes : X → List �
             by-cases (t (out (u .held)))
             (λ e. absurd (refused-not-finished (subst (λ (b : Bool). Finishes (cond b (refuse n place) go) (u .rest) a) e (u .goes))))
             (λ e. record { held = u .held; rest = u .rest; good = (u .good, e); same = u .same; ends = u .ends; goes = subst (λ (b : Bool). Finishes (cond b (refuse n place) go) (u .rest) a) e (u .goes) });
-        traced = λ x g at k ys h.
-            p .traced x (g .0) at (λ s at′. cond (t s) (refuse n place) (k s at′)) ys h
-            ∙ ap (λ (b : Bool). events at x ++ trace (cond b (refuse n place) (k (out x) (at + length (bytes x)))) ys) (g .1);
-        judged = λ x g small at k ys.
-            p .judged x (g .0) small at (λ s at′. cond (t s) (refuse n place) (k s at′)) ys
+        traced = λ x g at k ys.
+            goes-as refl refl (ap (λ (b : Bool). trace (cond b (refuse n place) (k (out x) (at + length (bytes x)))) ys) (g .1))
+            (p .traced x (g .0) at (λ s at′. cond (t s) (refuse n place) (k s at′)) ys);
+        judged = λ x g at k ys.
+            p .judged x (g .0) at (λ s at′. cond (t s) (refuse n place) (k s at′)) ys
             ∙ ap (λ (b : Bool). limited (fields at x) (settled (at + length (bytes x)) (run (cond b (refuse n place) (k (out x) (at + length (bytes x)))) ys))) (g .1);
-        reach = λ x g small at k. p .reach x (g .0) small at (λ s at′. cond (t s) (refuse n place) (k s at′));
+        reach = λ x g at k. p .reach x (g .0) at (λ s at′. cond (t s) (refuse n place) (k s at′));
       }
 
   -- the same part as a coding of other contents
   module _ {Y : Type 0} {Good′ : Y → Type 0} {bytes′ : Y → List ℕ} {log′ : ℕ → Y → List Entry} {events′ : ℕ → Y → List Event} {fields′ : ℕ → Y → List Field} {sites′ : ℕ → Y → List Site} {out′ : Y → S} where
     pub seen-as :
         (to : Y → X)
-        → ((y : Y) → Good′ y → length (bytes′ y) < 2 ^ 64 → Good (to y))
+        → ((y : Y) → Good′ y → Good (to y))
         → ((y : Y) → Good′ y → bytes′ y ≡ bytes (to y))
         → ((at : ℕ) (y : Y) → Good′ y → log′ at y ≡ log at (to y))
         → ((at : ℕ) (y : Y) → Good′ y → events′ at y ≡ events at (to y))
@@ -279,31 +284,29 @@ module _ {X S : Type 0} {P : Part S} {Good : X → Type 0} {bytes : X → List �
               let e = spells y g in
               let x = to y in
               ap (λ (l : List ℕ). run (P at k) (l ++ ys)) e
-              ∙ p .forth x (goods y g (omega arith)) at k ys (subst (λ (l : List ℕ). at + length l ≤ limit) e h)
+              ∙ p .forth x (goods y g) at k ys (subst (λ (l : List ℕ). at + length l ≤ limit) e h)
               ∙ ap (λ (l : List ℕ). after (length l) (log at x) (run (k (out x) (at + length l)) ys)) (sym e)
               ∙ ap₂ (λ (es : List Entry) (s : S). after (length (bytes′ y)) es (run (k s (at + length (bytes′ y))) ys)) (sym (logs at y g)) (sym (hands y g));
           back = λ at k xs a bs h f.
               let u = p .back at k xs a bs h f in
               let v = finds (u .held) (u .good) in
               began-as u (v .0) (v .1) (spells (v .0) (v .1) ∙ ap bytes (v .2)) (hands (v .0) (v .1) ∙ ap out (v .2));
-          traced = λ y g at k ys h.
+          traced = λ y g at k ys.
               let e = spells y g in
               let x = to y in
-              ap (λ (l : List ℕ). trace (P at k) (l ++ ys)) e
-              ∙ p .traced x (goods y g (omega arith)) at k ys (subst (λ (l : List ℕ). at + length l ≤ limit) e h)
-              ∙ ap (λ (l : List ℕ). events at x ++ trace (k (out x) (at + length l)) ys) (sym e)
-              ∙ ap₂ (λ (es : List Event) (s : S). es ++ trace (k s (at + length (bytes′ y))) ys) (sym (tells at y g)) (sym (hands y g));
-          judged = λ y g small at k ys.
+              goes-as (ap (λ (l : List ℕ). trace (P at k) (l ++ ys)) e) (tells at y g) (ap₂ (λ (l : List ℕ) (s : S). trace (k s (at + length l)) ys) (sym e) (sym (hands y g)))
+              (goes-past (subst (λ (l : List ℕ). limit < at + length l) (sym e)) (p .traced x (goods y g) at k ys));
+          judged = λ y g at k ys.
               let e = spells y g in
               let x = to y in
               ap (λ (l : List ℕ). settled at (run (P at k) (l ++ ys))) e
-              ∙ p .judged x (goods y g small) (subst (λ (l : List ℕ). length l < 2 ^ 64) e small) at k ys
+              ∙ p .judged x (goods y g) at k ys
               ∙ ap (λ (l : List ℕ). limited (fields at x) (settled (at + length l) (run (k (out x) (at + length l)) ys))) (sym e)
               ∙ ap₂ (λ (fs : List Field) (s : S). limited fs (settled (at + length (bytes′ y)) (run (k s (at + length (bytes′ y))) ys))) (sym (parts at y g)) (sym (hands y g));
-          reach = λ y g small at k.
+          reach = λ y g at k.
               let e = spells y g in
               subst (λ (l : List ℕ). Every (Comes (P at k) l at) (sites′ at y)) (sym e)
-              (subst (λ (ss : List Site). Every (Comes (P at k) (bytes (to y)) at) ss) (sym (places at y g)) (p .reach (to y) (goods y g small) (subst (λ (l : List ℕ). length l < 2 ^ 64) e small) at k));
+              (subst (λ (ss : List Site). Every (Comes (P at k) (bytes (to y)) at) ss) (sym (places at y g)) (p .reach (to y) (goods y g) at k));
         }
 
 -- a part's result as another
@@ -314,9 +317,9 @@ handing f p =
       back = λ at k xs a bs h e.
           let u = p .back at (λ s. k (f s)) xs a bs h e in
           record { held = u .held; rest = u .rest; good = u .good; same = u .same; ends = u .ends; goes = u .goes };
-      traced = λ x g at k ys h. p .traced x g at (λ s. k (f s)) ys h;
-      judged = λ x g small at k ys. p .judged x g small at (λ s. k (f s)) ys;
-      reach = λ x g small at k. p .reach x g small at (λ s. k (f s));
+      traced = λ x g at k ys. p .traced x g at (λ s. k (f s)) ys;
+      judged = λ x g at k ys. p .judged x g at (λ s. k (f s)) ys;
+      reach = λ x g at k. p .reach x g at (λ s. k (f s));
     }
 
 -- a part that is a site itself
@@ -327,9 +330,9 @@ standing {P = P} {bytes = bytes} what is p =
       back = p .back;
       traced = p .traced;
       judged = p .judged;
-      reach = λ x g small at k. (
-        record { from = omega arith; upto = omega arith; next = P at k; stands = is at k; goes = λ h rest. let e : at - at ≡ 0 = omega arith in ap (λ (n : ℕ). settled at (run (P at k) (take n (bytes x) ++ rest))) e },
-        p .reach x g small at k,
+      reach = λ x g at k. (
+        record { from = omega arith; upto = omega arith; next = P at k; stands = is at k; entered = []; goes = λ h rest. let e : at - at ≡ 0 = omega arith in let r = run (P at k) rest in ap (λ (n : ℕ). run (P at k) (take n (bytes x) ++ rest)) e ∙ ap (λ (n : ℕ). reading (r .answer) n (r .log)) (omega arith) },
+        p .reach x g at k,
       );
     }
 
@@ -349,9 +352,9 @@ empty-codes s =
       forth = λ x g at k ys h.
           ap (λ (n : ℕ). run (k s n) ys) (sym (add-zero at)) ∙ (let r = run (k s (at + 0)) ys in ap (λ (n : ℕ). reading (r .answer) n (r .log)) (sym (zero-add (r .taken))));
       back = λ at k xs a bs h f. record { held = tt; rest = xs; good = tt; same = refl; ends = omega arith; goes = subst (λ (n : ℕ). Finishes (k s n) xs a) (sym (add-zero at)) f };
-      traced = λ x g at k ys h. ap (λ (n : ℕ). trace (k s n) ys) (sym (add-zero at));
-      judged = λ x g small at k ys. ap (λ (n : ℕ). settled n (run (k s n) ys)) (sym (add-zero at));
-      reach = λ x g small at k. tt;
+      traced = λ x g at k ys. on (ap (λ (n : ℕ). trace (k s n) ys) (sym (add-zero at)));
+      judged = λ x g at k ys. ap (λ (n : ℕ). settled n (run (k s n) ys)) (sym (add-zero at));
+      reach = λ x g at k. tt;
     }
 
 -- no contents at all
@@ -402,7 +405,7 @@ module _ {X S : Type 0} (part : ℕ → S → Part S) (Good : S → X → Type 0
 
   no-each : (i : ℕ) (s : S) → Eaches 0 i s
   unfolding each flat fieldsEach
-  no-each i s = seen-as {Y = List X} (λ xs. tt) (λ xs g h. tt) none-bytes none-log none-events none-fields none-sites none-next (λ x g. ([], (refl, tt), refl)) (empty-codes s)
+  no-each i s = seen-as {Y = List X} (λ xs. tt) (λ xs g. tt) none-bytes none-log none-events none-fields none-sites none-next (λ x g. ([], (refl, tt), refl)) (empty-codes s)
     where
       none-bytes : (xs : List X) → (length xs ≡ 0) × Goods s xs → flat bytes xs ≡ []
       none-bytes [] g = refl
@@ -446,15 +449,15 @@ module _ {X S : Type 0} (part : ℕ → S → Part S) (Good : S → X → Type 0
         reach = reach-one;
       }
     where
-      reach-one : (xs : List X) → (length xs ≡ suc n) × Goods s xs → length (flat bytes xs) < 2 ^ 64 → (at : ℕ) (k : S → ℕ → Layout Head) → Every (Comes (each part (suc n) i s at k) (flat bytes xs) at) (sitesAll bytes sites next s at xs)
+      reach-one : (xs : List X) → (length xs ≡ suc n) × Goods s xs → (at : ℕ) (k : S → ℕ → Layout Head) → Every (Comes (each part (suc n) i s at k) (flat bytes xs) at) (sitesAll bytes sites next s at xs)
       reach-one [] g = absurd (omega (arith, g .0))
       reach-one (x ∷ xs) g = ahead n i s p q .reach (x, xs) (g .1 .0, (omega (arith, g .0), g .1 .1))
 
-      judged-one : (xs : List X) → (length xs ≡ suc n) × Goods s xs → length (flat bytes xs) < 2 ^ 64 → (at : ℕ) (k : S → ℕ → Layout Head) (ys : List ℕ) → settled at (run (each part (suc n) i s at k) (flat bytes xs ++ ys)) ≡ limited (fieldsEach bytes fields at xs) (settled (at + length (flat bytes xs)) (run (k (nexts s xs) (at + length (flat bytes xs))) ys))
+      judged-one : (xs : List X) → (length xs ≡ suc n) × Goods s xs → (at : ℕ) (k : S → ℕ → Layout Head) (ys : List ℕ) → settled at (run (each part (suc n) i s at k) (flat bytes xs ++ ys)) ≡ limited (fieldsEach bytes fields at xs) (settled (at + length (flat bytes xs)) (run (k (nexts s xs) (at + length (flat bytes xs))) ys))
       judged-one [] g = absurd (omega (arith, g .0))
       judged-one (x ∷ xs) g = ahead n i s p q .judged (x, xs) (g .1 .0, (omega (arith, g .0), g .1 .1))
 
-      traced-one : (xs : List X) → (length xs ≡ suc n) × Goods s xs → (at : ℕ) (k : S → ℕ → Layout Head) (ys : List ℕ) → at + length (flat bytes xs) ≤ limit → trace (each part (suc n) i s at k) (flat bytes xs ++ ys) ≡ tells i s at xs ++ trace (k (nexts s xs) (at + length (flat bytes xs))) ys
+      traced-one : (xs : List X) → (length xs ≡ suc n) × Goods s xs → (at : ℕ) (k : S → ℕ → Layout Head) (ys : List ℕ) → Along at (flat bytes xs) (trace (each part (suc n) i s at k) (flat bytes xs ++ ys)) (tells i s at xs) (trace (k (nexts s xs) (at + length (flat bytes xs))) ys)
       traced-one [] g = absurd (omega (arith, g .0))
       traced-one (x ∷ xs) g = ahead n i s p q .traced (x, xs) (g .1 .0, (omega (arith, g .0), g .1 .1))
 
@@ -505,7 +508,7 @@ module _ {X : Type 0} (part : ℕ → ℕ → (ℕ → Layout Head) → Layout H
   pub all-codes : ((i : ℕ) → Codes (λ at (k : Unit {0} → ℕ → Layout Head). part i at (k tt)) Good bytes (log i) (events i) fields sites (λ x. tt)) → (n i : ℕ) → Codes (λ at (k : Unit {0} → ℕ → Layout Head). each (alone part) n i tt at k) (λ xs. (length xs ≡ n) × Every Good xs) (flat bytes) (logAll part Good bytes log i) (eventsAll bytes events i) (fieldsEach bytes fields) (sitesEach bytes sites) (λ xs. tt)
   all-codes p n i =
       seen-as (λ xs. xs)
-      (λ xs g h. (g .0, every-one xs (g .1)))
+      (λ xs g. (g .0, every-one xs (g .1)))
       (λ xs g. refl)
       (λ at xs g. log-all i at xs)
       (λ at xs g. events-all i at xs)
@@ -520,7 +523,7 @@ pub list-codes : {X : Type 0} {P : Part ℕ} {GoodCount : ℕ → Type 0} {logCo
 unfolding listBytes
 list-codes {GoodCount = GoodCount} part Good bytes log events fields sites first c p =
     seen-as (λ xs. (length xs, xs))
-    (λ xs g h. (g .0, (refl, g .1)))
+    (λ xs g. (g .0, (refl, g .1)))
     (λ xs g. refl)
     (λ at xs g. refl)
     (λ at xs g. refl)
@@ -549,6 +552,13 @@ within-judged place at end l xs z goes =
     by-cases (leb end limit)
     (λ e. rw e (goes (leb-true end limit e)))
     (λ e. rw e (ap (λ (n : ℕ). (refused 2 place, n)) (add-zero at)))
+
+pub within-traced : (place end : ℕ) (l : Layout Head) (xs : List ℕ) (es u : List Event) → (end ≤ limit → trace l xs ≡ es ++ u) → Goes (limit < end) (trace (within place end l) xs) es u
+unfolding within trace
+within-traced place end l xs es u goes =
+    by-cases (leb end limit)
+    (λ e. on (rw e (goes (leb-true end limit e))))
+    (λ e. stops (leb-false end limit e) es (rw e refl))
 
 -- the first w bytes, and what follows
 pub field-run : (w : ℕ) (f : List ℕ → Layout Head) (bs ys : List ℕ) → length bs ≡ w → fieldRun w (bs ++ ys) (run (f (take w (bs ++ ys))) (drop w (bs ++ ys))) ≡ behind w (run (f bs) ys)
@@ -592,16 +602,17 @@ number-codes start o w =
             ends = omega (arith, length-bytes o w v);
             goes = subst (λ (n : ℕ). Finishes (k v (at + n)) (drop w xs) a) (sym (length-bytes o w v)) (there .1);
           };
-      traced = λ v g at k ys h.
+      traced = λ v g at k ys.
           let long = length-bytes o w v in
-          ap (λ (l : Layout Head). trace l (bytesOf o w v ++ ys)) (within-run (start at) (at + w) (number o w (λ v. k v (at + w))) (omega arith))
-          ∙ field-traced false w (λ bs. k (value o bs) (at + w)) (bytesOf o w v) ys long
-          ∙ ap₂ (λ (u n : ℕ). looked (bytesOf o w v) ++ trace (k u (at + n)) ys) (value-bytes o w v g) (sym long);
-      judged = λ v g small at k ys.
+          goes-as refl refl (ap (λ (n : ℕ). trace (k v (at + n)) ys) (sym long))
+          (goes-past (λ h. omega arith)
+          (within-traced (start at) (at + w) (number o w (λ v. k v (at + w))) (bytesOf o w v ++ ys) (looked (bytesOf o w v)) (trace (k v (at + w)) ys)
+          (λ h. field-traced false w (λ bs. k (value o bs) (at + w)) (bytesOf o w v) ys long ∙ ap (λ (u : ℕ). looked (bytesOf o w v) ++ trace (k u (at + w)) ys) (value-bytes o w v g))));
+      judged = λ v g at k ys.
           let long = length-bytes o w v in
           within-judged (start at) at (at + w) (number o w (λ v. k v (at + w))) (bytesOf o w v ++ ys) _
           (λ h. field-judged at w (λ bs. k (value o bs) (at + w)) (bytesOf o w v) ys long ∙ ap₂ (λ (u n : ℕ). settled (at + n) (run (k u (at + n)) ys)) (value-bytes o w v g) (sym long));
-      reach = λ v g small at k. tt;
+      reach = λ v g at k. tt;
     }
 
 pub opaque-codes : (h : Hidden) (w : ℕ) → Codes (λ at (k : Unit {0} → ℕ → Layout Head). opaqueAt at h w (k tt)) (Fixed w) (λ bs. bs) (λ at bs. []) (λ at bs. passed bs) (λ at bs. fixed at w) (λ at bs. []) (λ bs. tt)
@@ -624,12 +635,12 @@ opaque-codes hid w =
             ends = omega (arith, in-limit .0);
             goes = subst (λ (n : ℕ). Finishes (k tt (at + n)) (drop w xs) a) (sym long) (there .1);
           };
-      traced = λ bs g at k ys h.
-          ap (λ (l : Layout Head). trace l (bs ++ ys)) (within-run at (at + w) (opaque hid w (k tt (at + w))) (omega (arith, g .long)))
-          ∙ field-traced true w (λ _. k tt (at + w)) bs ys (g .long)
-          ∙ ap (λ (n : ℕ). passed bs ++ trace (k tt (at + n)) ys) (sym (g .long));
-      judged = λ bs g small at k ys.
+      traced = λ bs g at k ys.
+          goes-as refl refl (ap (λ (n : ℕ). trace (k tt (at + n)) ys) (sym (g .long)))
+          (goes-past (λ h. omega (arith, g .long))
+          (within-traced at (at + w) (opaque hid w (k tt (at + w))) (bs ++ ys) (passed bs) (trace (k tt (at + w)) ys) (λ h. field-traced true w (λ _. k tt (at + w)) bs ys (g .long))));
+      judged = λ bs g at k ys.
           within-judged at at (at + w) (opaque hid w (k tt (at + w))) (bs ++ ys) _
           (λ h. field-judged at w (λ _. k tt (at + w)) bs ys (g .long) ∙ ap (λ (n : ℕ). settled (at + n) (run (k tt (at + n)) ys)) (sym (g .long)));
-      reach = λ bs g small at k. tt;
+      reach = λ bs g at k. tt;
     }

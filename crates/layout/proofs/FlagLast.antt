@@ -1,11 +1,11 @@
 -- The flag byte is judged after the locktime: with any flag, a reading is that with flag 0 as far as that one goes. Where that one finishes, it is
 -- refused with 7 at 4 for a flag above 1, and goes on with the witnesses for flag 1.
-use Prim.Native.Nat.{ℕ, zero, suc, _+_, _*_, _^_, _<_, _≤_}
-use mathlib.Core.Path.{_≡_, refl, sym, _∙_, ap, ap₂, subst}
+use Prim.Native.Nat.{ℕ, zero, suc, _+_, _<_, _≤_}
+use mathlib.Core.Path.{_≡_, refl, sym, _∙_, ap, ap₂}
 use mathlib.Core.Bool.{Bool, true, false, cond, _&&_, _||_}
 use mathlib.Core.List.{List, [], _∷_, _++_, append-assoc, append-nil}
 use mathlib.Core.Logic.{_↔_}
-use native.Mathlib.Nat.{add-assoc, zero-add}
+use native.Mathlib.Nat.{add-assoc, add-zero, zero-add}
 use native.Mathlib.Omega.{arith}
 use lib.Dec.{leb, eqb}
 use lib.ListN.{length, take, drop, getD, length-take}
@@ -13,8 +13,9 @@ use lib.Seq.{drop-drop, getD-take}
 use borrow.Author.Tests.{ne-eqb, leb-true, leb-false}
 use Rattle.layout.specs.Number.{Order, little, big, value, Bytes}
 use Rattle.layout.specs.Layout.{Layout, number, opaque, enter, refuse, accept, Answer, finished, more, refused, Reading, reading, behind, noted, Entry, Hidden, txid, blindingNonce, entropy, assetPart, noncePart, commitmentPart, scriptBody, run}
-use Rattle.layout.specs.Transaction.{Head, Room, limit, entry, within, furtherAt, numberAt, opaqueAt, announced, least, compactAt, countAt, bodyAt, valueAt, prefixedAt, each, alone, vout, flags, flagBit, assetPrefix, noncePrefix, seen, issuanceAt, inputAt, outputAt, inputWitnessAt, outputWitnessAt, transaction}
-use Rattle.layout.specs.Outcome.{Sizes, roomOf, readingOf}
+use Rattle.layout.specs.Transaction.{Head, Room, limit, within, furtherAt, numberAt, opaqueAt, announced, least, compactAt, countAt, bodyAt, valueAt, prefixedAt, each, alone, flagBit, assetPrefix, noncePrefix, seen, issuanceAt, inputAt, outputAt, inputWitnessAt, outputWitnessAt, transaction}
+use Rattle.layout.specs.Outcome.{Sizes, roomOf, zeros, outcome, readingOf, partial}
+use Rattle.layout.specs.Beginnings.{sevenOf}
 use Rattle.layout.specs.Refusals.{Refusal, fixedPast, furtherPast, bodyPast, notShortest, tooMany, notListed, nullIssuance, flagAbove, allEmpty}
 use Rattle.layout.proofs.Number.{value-one}
 use Rattle.layout.proofs.Reading.{by-cases, fieldRun, field-there, field-short, refused-not-more}
@@ -245,9 +246,21 @@ flag-trace room a b c d flag xs above =
     front-trace room a b c d flag xs
     ∙ ap (λ (t : List Event). shown a ∷ shown b ∷ shown c ∷ shown d ∷ shown flag ∷ t) (until-trace (behindLocktime room flag) (flag-until room (value little (a ∷ b ∷ c ∷ d ∷ [])) flag) xs ∙ nothing-on room flag above (run l xs .answer) (run l xs .taken) (trace l xs) xs)
 
+-- and a caller sees what it sees with flag 0, and 7 where that is finished
+seven-on : (z : Sizes) (flag : ℕ) → 1 < flag → (t : Answer Head) (n : ℕ) (es : List Entry) (xs : List ℕ) → outcome z (goesOn (behindLocktime (roomOf z) flag) t n es xs) ≡ sevenOf z (outcome z (reading t n es))
+unfolding run
+seven-on z flag above (finished h) n es xs = rw (ne-eqb flag 0 (λ e. omega arith), ne-eqb flag 1 (λ e. omega arith)) (λ j. record { answer = refused 7 4; taken = add-zero n j; tables = zeros z })
+seven-on z flag above more n es xs = refl
+seven-on z flag above (refused m p) n es xs = refl
+
+pub flag-seven : (z : Sizes) (a b c d flag : ℕ) (xs : List ℕ) → 1 < flag → partial z (a ∷ b ∷ c ∷ d ∷ flag ∷ xs) ≡ sevenOf z (partial z (a ∷ b ∷ c ∷ d ∷ 0 ∷ xs))
+flag-seven z a b c d flag xs above =
+    let r = readingOf z (a ∷ b ∷ c ∷ d ∷ 0 ∷ xs) in
+    ap (outcome z) (flag-judged-last z a b c d flag xs) ∙ seven-on z flag above (r .answer) (r .taken) (r .log) (a ∷ b ∷ c ∷ d ∷ flag ∷ xs)
+
 -- ---- 7 and 8, exactly when
 
-unflagged : (a b c d flag : ℕ) (xs : List ℕ) → Bytes (a ∷ b ∷ c ∷ d ∷ flag ∷ xs) → Bytes (a ∷ b ∷ c ∷ d ∷ 0 ∷ xs)
+pub unflagged : (a b c d flag : ℕ) (xs : List ℕ) → Bytes (a ∷ b ∷ c ∷ d ∷ flag ∷ xs) → Bytes (a ∷ b ∷ c ∷ d ∷ 0 ∷ xs)
 unflagged a b c d flag xs q zero = q zero
 unflagged a b c d flag xs q (suc zero) = q 1
 unflagged a b c d flag xs q (suc (suc zero)) = q 2
@@ -297,6 +310,6 @@ module _ (z : Sizes) (a b c d flag : ℕ) (xs : List ℕ) (q : Bytes (a ∷ b �
         ∙ rw (ne-eqb flag 0 (λ e. omega arith), ne-eqb flag 1 (λ e. omega arith)),
   )
 
-  -- 8 is given behind a locktime too: with flag 0 the bytes up to there would be a whole transaction. (That it is given: GivenFlag, flag-empty.)
+  -- 8 is given behind a locktime too: with flag 0 the bytes up to there would be a whole transaction. (That it is given: Moments, read-exactly.)
   pub eight-when : readingOf z (a ∷ b ∷ c ∷ d ∷ flag ∷ xs) .answer ≡ refused 8 4 → (h : Head) × (plain .answer ≡ finished h)
   eight-when = front-whole 8 (omega arith)

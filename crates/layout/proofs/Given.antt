@@ -1,36 +1,25 @@
 -- Each fault of a part is given, with its number and place and with the byte that settles it, whatever follows: the other direction of Refused,
 -- for every part of the layout, at every position.
-use Prim.Native.Nat.{ℕ, zero, suc, _+_, _^_, _<_, _≤_}
-use mathlib.Core.Path.{_≡_, refl, sym, _∙_, ap, ap₂, subst}
-use mathlib.Core.Bool.{Bool, true, false, cond, _&&_, _||_}
-use mathlib.Core.List.{List, [], _∷_, _++_, append-assoc}
+use Prim.Native.Nat.{ℕ, _+_, _^_, _<_, _≤_}
+use mathlib.Core.Path.{_≡_, refl, sym, _∙_, ap}
+use mathlib.Core.Bool.{Bool, false, cond, _&&_, _||_}
+use mathlib.Core.List.{List, [], _∷_, _++_}
 use native.Mathlib.Omega.{arith}
 use lib.Dec.{leb, eqb}
 use lib.ListN.{length}
 use borrow.Author.Tests.{le-leb, lt-leb}
-use Rattle.layout.specs.Number.{Order, little, big, value, bytesOf, Bytes}
-use Rattle.layout.specs.Layout.{Layout, input, blindingNonce, entropy, enter, opaque, refuse, Reading, reading, refused, Entry, Hidden, run}
-use Rattle.layout.specs.Transaction.{Head, limit, entry, within, furtherAt, numberAt, opaqueAt, announced, least, compactAt, countAt, bodyAt, valueAt, prefixedAt, issuanceAt}
+use Rattle.layout.specs.Number.{little, bytesOf}
+use Rattle.layout.specs.Layout.{Layout, input, blindingNonce, entropy, enter, refuse, Reading, reading, more, refused, Entry, Hidden, run}
+use Rattle.layout.specs.Transaction.{Head, limit, entry, within, furtherAt, numberAt, opaqueAt, announced, least, compactAt, countAt, valueAt, prefixedAt, issuanceAt}
 use Rattle.layout.specs.Contents.{Fixed, null, compactBytes, valueBytes}
 use Rattle.layout.proofs.Codes.{after, number-codes, opaque-codes}
 use Rattle.layout.proofs.Number.{length-bytes}
-use Rattle.layout.proofs.Parts.{one-byte, compact-codes, value-codes}
+use Rattle.layout.proofs.Reading.{by-cases, field-short}
+use Rattle.layout.proofs.Compact.{one-byte}
+use Rattle.layout.proofs.Parts.{compact-codes, value-codes}
 
 abbrev Refuses : Layout Head → List ℕ → ℕ → ℕ → ℕ → Type 0
 Refuses l xs number place taken = run l xs ≡ reading (refused number place) taken []
-
--- 2: the field would end past 4,000,000, whatever bytes are there
-within-past : (place end : ℕ) (l : Layout Head) (xs : List ℕ) → limit < end → Refuses (within place end l) xs 2 place 0
-unfolding within run
-within-past place end l xs past = rw (lt-leb end limit past)
-
-pub fixed-past : (at : ℕ) (o : Order) (w : ℕ) (k : ℕ → ℕ → Layout Head) (xs : List ℕ) → limit < at + w → Refuses (numberAt at o w k) xs 2 at 0
-unfolding furtherAt
-fixed-past at o w k xs past = within-past at (at + w) _ xs past
-
-pub hidden-past : (at : ℕ) (h : Hidden) (w : ℕ) (k : ℕ → Layout Head) (xs : List ℕ) → limit < at + w → Refuses (opaqueAt at h w k) xs 2 at 0
-unfolding opaqueAt
-hidden-past at h w k xs past = within-past at (at + w) _ xs past
 
 -- ---- counts and lengths
 
@@ -42,6 +31,11 @@ first-read at first k ys byte room =
     ∙ number-codes (λ at. at) little 1 .forth first (omega arith) at k ys (omega (arith, ap (λ (l : List ℕ). length l) b))
     ∙ ap (λ (l : List ℕ). after (length l) [] (run (k first (at + length l)) ys)) b
 
+-- nothing of it is there
+pub compact-wants : (at : ℕ) (k : ℕ → ℕ → Layout Head) → at + 1 ≤ limit → run (compactAt at k) [] ≡ reading more 0 []
+unfolding compactAt furtherAt within run
+compact-wants at k room = rw (le-leb (at + 1) limit room) refl
+
 module _ (at first : ℕ) (k : ℕ → ℕ → Layout Head) (ys : List ℕ) (byte : first < 256) (above : 252 < first) (room : at + 1 ≤ limit) where
   further-read : run (compactAt at k) (first ∷ ys) ≡ after 1 [] (run (furtherAt at (at + 1) little (announced first) λ n at″. cond (leb (least (announced first)) n) (k n at″) (refuse 3 at)) ys)
   unfolding compactAt
@@ -49,10 +43,14 @@ module _ (at first : ℕ) (k : ℕ → ℕ → Layout Head) (ys : List ℕ) (byt
       first-read at first _ ys byte room
       ∙ ap (λ (t : Bool). after 1 [] (run (cond t (k first (at + 1)) (furtherAt at (at + 1) little (announced first) λ n at″. cond (leb (least (announced first)) n) (k n at″) (refuse 3 at))) ys)) (lt-leb first 252 above)
 
-  -- 2: the further bytes would end past 4,000,000
-  pub further-past : limit < at + 1 + announced first → Refuses (compactAt at k) (first ∷ ys) 2 at 1
-  unfolding furtherAt
-  further-past past = further-read ∙ ap (after 1 []) (within-past at (at + 1 + announced first) _ ys past)
+  -- not all further bytes are there: more is wanted, or 2 where they would end past 4,000,000
+  pub further-waits : length ys < announced first → run (compactAt at k) (first ∷ ys) ≡ cond (leb (at + 1 + announced first) limit) (reading more (1 + length ys) []) (reading (refused 2 at) 1 [])
+  unfolding furtherAt within run
+  further-waits few =
+      further-read
+      ∙ by-cases (leb (at + 1 + announced first) limit)
+      (λ e. rw e (ap (after 1 []) (field-short (announced first) ys _ few)))
+      (λ e. rw e refl)
 
 -- 3: not in shortest form; judged after the last byte
 pub not-shortest : (at first n : ℕ) (k : ℕ → ℕ → Layout Head) (ys : List ℕ) → first < 256 → 252 < first → n < least (announced first) → n < 256 ^ announced first → at + 1 + announced first ≤ limit → Refuses (compactAt at k) (first ∷ (bytesOf little (announced first) n ++ ys)) 3 at (1 + announced first)
@@ -72,14 +70,6 @@ too-many at left n k ys small less room =
     compact-codes .forth n small at (λ n at′. cond (leb n left) (k n at′) (refuse 4 at)) ys room
     ∙ ap (λ (t : Bool). after (length (compactBytes n)) [] (run (cond t (k n (at + length (compactBytes n))) (refuse 4 at)) ys)) (lt-leb n left less)
     ∙ ap (λ (m : ℕ). reading (refused 4 at) m []) (omega arith)
-
--- 2: a body would end past 4,000,000; given with its length's last byte
-pub body-past : (at : ℕ) (h : Hidden) (note : ℕ → ℕ → Entry) (k : ℕ → ℕ → Layout Head) (n : ℕ) (ys : List ℕ) → n < 2 ^ 64 → at + length (compactBytes n) ≤ limit → limit < at + length (compactBytes n) + n → Refuses (bodyAt at h note k) (compactBytes n ++ ys) 2 at (length (compactBytes n))
-unfolding bodyAt
-body-past at h note k n ys small room past =
-    compact-codes .forth n small at (λ n at′. within at (at′ + n) (enter (note at′ n) (opaque h n (k n (at′ + n))))) ys room
-    ∙ ap (after (length (compactBytes n)) []) (within-past at (at + length (compactBytes n) + n) _ ys past)
-    ∙ ap (λ (m : ℕ). reading (refused 2 at) m []) (omega arith)
 
 -- ---- prefixes and issuances
 

@@ -11,7 +11,8 @@ use lib.ListN.{length, replicate, length-append, length-replicate, replicate-app
 use Rattle.layout.specs.Layout.{Entry, Table, input, output, item}
 use Rattle.layout.specs.Transaction.{entry}
 use Rattle.layout.specs.Outcome.{Sizes, roomOf, zeros, laid}
-use Rattle.layout.specs.Contents.{Value, null, explicit, commitment, Issuance, Input, Output, InputWitness, OutputWitness, Witnesses, Contents, flat, bodyBytes, listBytes, valueBytes, tokenBytes, inputBytes, outputBytes, inputWitnessBytes, outputWitnessBytes, Every, MaybeAllowed}
+use Rattle.layout.specs.Contents.{Value, null, explicit, commitment, Issuance, Input, Output, InputWitness, OutputWitness, Witnesses, Contents, flat, bodyBytes, listBytes, valueBytes, tokenBytes, inputBytes, outputBytes, inputWitnessBytes, outputWitnessBytes, Every}
+use Rattle.layout.proofs.Forming.{Matches}
 use Rattle.layout.specs.Records.{itemsOf, sum, itemCount, Fits, bodyColumns, valuePrefix, high, low, tokenPrefix, issuanceColumns, inputColumns, inputWitnessColumns, outputColumns, outputWitnessColumns, placed, placedWitnesses, stackRecords, witnessItems, witnessesItems, beside, inputsAt, outputsAt, witnessesAt, inputWitnessRecords, outputWitnessRecords, allItems, table, tablesOf}
 use Rattle.layout.specs.Moments.{counted, bodyMoments, issuanceMoments, inputMoments, inputWitnessMoments, outputMoments, outputWitnessMoments, stackMoments, witnessItemMoments, witnessesItemMoments, allInputWitnessMoments, allOutputWitnessMoments, allItemMoments, momentsOf, kept, keptIn}
 use Rattle.layout.proofs.Parts.{amountNote, amountHalves, keysNote, keysHalves, outNote}
@@ -424,7 +425,7 @@ module _ (now : ℕ → Bool) where
     abbrev outputsLaid : List Timed
     outputsLaid = outputsTimed 0 (outputsAt x) outs
 
-    input-table : (o : Option Witnesses) → MaybeAllowed (length ins) (length outs) o → (behind : List ℕ) → laidIn now input (inputsLaid ++ (outputsLaid ++ tailTimed (witnessesAt x) o)) (blanks (20 * length ins) ++ behind) ≡ flat (λ r. r) (beside (placed inputBytes keptInput (inputsAt x) ins) (keptRows now (allInputWitnessMoments (witnessesAt x) (length ins) o) (inputWitnessRecords (witnessesAt x) (length ins) o))) ++ behind
+    input-table : (o : Option Witnesses) → Matches (length ins) (length outs) o → (behind : List ℕ) → laidIn now input (inputsLaid ++ (outputsLaid ++ tailTimed (witnessesAt x) o)) (blanks (20 * length ins) ++ behind) ≡ flat (λ r. r) (beside (placed inputBytes keptInput (inputsAt x) ins) (keptRows now (allInputWitnessMoments (witnessesAt x) (length ins) o) (inputWitnessRecords (witnessesAt x) (length ins) o))) ++ behind
     input-table o g behind =
         let rest = tailTimed (witnessesAt x) o in
         laid-both now input inputsLaid (outputsLaid ++ rest) (blanks (20 * length ins) ++ behind)
@@ -433,17 +434,17 @@ module _ (now : ℕ → Bool) where
         ∙ ap (λ (l : List ℕ). laidIn now input rest (l ++ behind)) (bare-flat inputBytes keptInput 7 (inputsAt x) ins)
         ∙ witness-part o g
       where
-        witness-part : (o : Option Witnesses) → MaybeAllowed (length ins) (length outs) o → laidIn now input (tailTimed (witnessesAt x) o) (flat (λ r. r ++ blanks 7) (placed inputBytes keptInput (inputsAt x) ins) ++ behind) ≡ flat (λ r. r) (beside (placed inputBytes keptInput (inputsAt x) ins) (keptRows now (allInputWitnessMoments (witnessesAt x) (length ins) o) (inputWitnessRecords (witnessesAt x) (length ins) o))) ++ behind
+        witness-part : (o : Option Witnesses) → Matches (length ins) (length outs) o → laidIn now input (tailTimed (witnessesAt x) o) (flat (λ r. r ++ blanks 7) (placed inputBytes keptInput (inputsAt x) ins) ++ behind) ≡ flat (λ r. r) (beside (placed inputBytes keptInput (inputsAt x) ins) (keptRows now (allInputWitnessMoments (witnessesAt x) (length ins) o) (inputWitnessRecords (witnessesAt x) (length ins) o))) ++ behind
         witness-part none g =
             laid-off now input [] tt _
             ∙ ap (λ (l : List ℕ). l ++ behind) (bare-beside 7 (placed inputBytes keptInput (inputsAt x) ins) (length ins) (placed-length inputBytes keptInput (inputsAt x) ins) ∙ ap (λ (rows : List (List ℕ)). flat (λ r. r) (beside (placed inputBytes keptInput (inputsAt x) ins) rows)) (sym (rows-same now (length ins) 7 (witnessesAt x))))
         witness-part (some w) g =
             let at′ = witnessesAt x + length (flat inputWitnessBytes (w .inputs)) in
             laid-both now input (inputWitnessesTimed 0 0 (witnessesAt x) (w .inputs)) (outputWitnessesTimed 0 at′ (w .outputs)) _
-            ∙ ap (laidIn now input (outputWitnessesTimed 0 at′ (w .outputs))) (completed now refl (inputs-complete ins (w .inputs) 0 (inputsAt x) 0 (witnessesAt x) (g .inputs)) [] behind refl)
+            ∙ ap (laidIn now input (outputWitnessesTimed 0 at′ (w .outputs))) (completed now refl (inputs-complete ins (w .inputs) 0 (inputsAt x) 0 (witnessesAt x) (g .0)) [] behind refl)
             ∙ laid-off now input (outputWitnessesTimed 0 at′ (w .outputs)) (output-witnesses-off input refl (w .outputs) 0 _) _
 
-    output-table : (o : Option Witnesses) → MaybeAllowed (length ins) (length outs) o → (behind : List ℕ) → laidIn now output (inputsLaid ++ (outputsLaid ++ tailTimed (witnessesAt x) o)) (blanks (14 * length outs) ++ behind) ≡ flat (λ r. r) (beside (placed outputBytes keptOutput (outputsAt x) outs) (keptRows now (allOutputWitnessMoments (witnessesAt x) (length outs) o) (outputWitnessRecords (witnessesAt x) (length outs) o))) ++ behind
+    output-table : (o : Option Witnesses) → Matches (length ins) (length outs) o → (behind : List ℕ) → laidIn now output (inputsLaid ++ (outputsLaid ++ tailTimed (witnessesAt x) o)) (blanks (14 * length outs) ++ behind) ≡ flat (λ r. r) (beside (placed outputBytes keptOutput (outputsAt x) outs) (keptRows now (allOutputWitnessMoments (witnessesAt x) (length outs) o) (outputWitnessRecords (witnessesAt x) (length outs) o))) ++ behind
     unfolding kept
     output-table o g behind =
         let rest = tailTimed (witnessesAt x) o in
@@ -453,14 +454,14 @@ module _ (now : ℕ → Bool) where
         ∙ ap (λ (l : List ℕ). laidIn now output rest (l ++ behind)) (bare-flat outputBytes keptOutput 4 (outputsAt x) outs)
         ∙ witness-part o g
       where
-        witness-part : (o : Option Witnesses) → MaybeAllowed (length ins) (length outs) o → laidIn now output (tailTimed (witnessesAt x) o) (flat (λ r. r ++ blanks 4) (placed outputBytes keptOutput (outputsAt x) outs) ++ behind) ≡ flat (λ r. r) (beside (placed outputBytes keptOutput (outputsAt x) outs) (keptRows now (allOutputWitnessMoments (witnessesAt x) (length outs) o) (outputWitnessRecords (witnessesAt x) (length outs) o))) ++ behind
+        witness-part : (o : Option Witnesses) → Matches (length ins) (length outs) o → laidIn now output (tailTimed (witnessesAt x) o) (flat (λ r. r ++ blanks 4) (placed outputBytes keptOutput (outputsAt x) outs) ++ behind) ≡ flat (λ r. r) (beside (placed outputBytes keptOutput (outputsAt x) outs) (keptRows now (allOutputWitnessMoments (witnessesAt x) (length outs) o) (outputWitnessRecords (witnessesAt x) (length outs) o))) ++ behind
         witness-part none g =
             laid-off now output [] tt _
             ∙ ap (λ (l : List ℕ). l ++ behind) (bare-beside 4 (placed outputBytes keptOutput (outputsAt x) outs) (length outs) (placed-length outputBytes keptOutput (outputsAt x) outs) ∙ ap (λ (rows : List (List ℕ)). flat (λ r. r) (beside (placed outputBytes keptOutput (outputsAt x) outs) rows)) (sym (rows-same now (length outs) 4 (witnessesAt x))))
         witness-part (some w) g =
             let at′ = witnessesAt x + length (flat inputWitnessBytes (w .inputs)) in
             laid-skip now output [] (inputWitnessesTimed 0 0 (witnessesAt x) (w .inputs)) (outputWitnessesTimed 0 at′ (w .outputs)) (witnesses-off output refl refl (w .inputs) 0 0 (witnessesAt x)) _
-            ∙ completed now refl (outputs-complete outs (w .outputs) 0 (outputsAt x) at′ (g .outputs)) [] behind refl
+            ∙ completed now refl (outputs-complete outs (w .outputs) 0 (outputsAt x) at′ (g .1)) [] behind refl
 
     item-table : (o : Option Witnesses) (behind : List ℕ) → laidIn now item (inputsLaid ++ (outputsLaid ++ tailTimed (witnessesAt x) o)) (blanks (2 * itemCount o) ++ behind) ≡ flat (λ r. r) (keptRows now (allItemMoments (witnessesAt x) o) (allItems (witnessesAt x) o)) ++ behind
     unfolding keptRows
@@ -527,17 +528,17 @@ pub input-witness-wide : (at n : ℕ) (o : Option Witnesses) → Wide 7 (inputWi
 input-witness-wide at n none = blanks-wide 7 n
 input-witness-wide at n (some w) = witnesses-wide 0 at (w .inputs)
 
-pub input-witness-length : (at n m : ℕ) (o : Option Witnesses) → MaybeAllowed n m o → length (inputWitnessRecords at n o) ≡ n
+pub input-witness-length : (at n m : ℕ) (o : Option Witnesses) → Matches n m o → length (inputWitnessRecords at n o) ≡ n
 input-witness-length at n m none g = length-replicate n (blanks 7)
-input-witness-length at n m (some w) g = witnesses-length 0 at (w .inputs) ∙ g .inputs
+input-witness-length at n m (some w) g = witnesses-length 0 at (w .inputs) ∙ g .0
 
 pub output-witness-wide : (at n : ℕ) (o : Option Witnesses) → Wide 4 (outputWitnessRecords at n o)
 output-witness-wide at n none = blanks-wide 4 n
 output-witness-wide at n (some w) = placed-wide outputWitnessBytes outputWitnessColumns 4 (λ at x. refl) (at + length (flat inputWitnessBytes (w .inputs))) (w .outputs)
 
-pub output-witness-length : (at n m : ℕ) (o : Option Witnesses) → MaybeAllowed m n o → length (outputWitnessRecords at n o) ≡ n
+pub output-witness-length : (at n m : ℕ) (o : Option Witnesses) → Matches m n o → length (outputWitnessRecords at n o) ≡ n
 output-witness-length at n m none g = length-replicate n (blanks 4)
-output-witness-length at n m (some w) g = placed-length outputWitnessBytes outputWitnessColumns (at + length (flat inputWitnessBytes (w .inputs))) (w .outputs) ∙ g .outputs
+output-witness-length at n m (some w) g = placed-length outputWitnessBytes outputWitnessColumns (at + length (flat inputWitnessBytes (w .inputs))) (w .outputs) ∙ g .1
 
 both-length : (ps qs : List (List ℕ)) → length (ps ++ qs) ≡ length ps + length qs
 both-length ps qs = length-append ps qs
@@ -623,7 +624,7 @@ module _ (now : ℕ → Bool) (x : Contents) where
       ap (λ (rows : List (List ℕ)). beside rows (keptRows now (allOutputWitnessMoments (witnessesAt x) (length (x .outputs)) (x .witnesses)) (outputWitnessRecords (witnessesAt x) (length (x .outputs)) (x .witnesses)))) (kept-placed now outputBytes outputMoments outputColumns (outputsAt x) (x .outputs))
       ∙ sym (rows-beside now (placed outputBytes outputMoments (outputsAt x) (x .outputs)) (placed outputBytes outputColumns (outputsAt x) (x .outputs)) _ _ (placed-outputs-alike x))
 
-module _ (x : Contents) (g : MaybeAllowed (length (x .inputs)) (length (x .outputs)) (x .witnesses)) where
+module _ (x : Contents) (g : Matches (length (x .inputs)) (length (x .outputs)) (x .witnesses)) where
   pub input-rows-wide : Wide 20 (inputRows x)
   input-rows-wide = beside-wide 13 7 (placed inputBytes inputColumns (inputsAt x) (x .inputs)) (inputWitnessRecords (witnessesAt x) (length (x .inputs)) (x .witnesses)) (placed-wide inputBytes inputColumns 13 input-long (inputsAt x) (x .inputs)) (input-witness-wide (witnessesAt x) (length (x .inputs)) (x .witnesses))
 

@@ -1,10 +1,12 @@
 pub mod Number
 pub mod Reading
 pub mod Trace
+pub mod Compact
 pub mod Codes
 pub mod Outpoint
 pub mod Parts
 pub mod Whole
+pub mod Forming
 pub mod Timed
 pub mod Timing
 pub mod Kept
@@ -28,9 +30,11 @@ pub mod Moments
 pub mod Sound
 pub mod Refused
 pub mod Given
-pub mod GivenFlag
 pub mod Limits
 pub mod Sited
+pub mod Covers
+pub mod Determined
 pub mod FlagLast
 pub mod Theorems
 pub mod Outlines
+pub mod Bearings

@@ -3,24 +3,32 @@
 --     number-so-far   number by number: what stands at a place is the transaction's number there, or 0 before its moment
 --     so-far          before the last byte: more is wanted, all bytes are taken
 --     all-come        from the last byte on: finished, and every number has come
+--     read-exactly    of whatever length, one equation: the outcome of each beginning of what 01 allows but for its length
 use Prim.Native.Nat.{ℕ, _+_, _-_, _<_, _≤_}
 use mathlib.Core.Path.{_≡_, refl, sym, _∙_, ap}
-use mathlib.Core.Bool.{cond}
+use mathlib.Core.Bool.{Bool, true, false, cond}
 use mathlib.Core.List.{List, _++_}
 use native.Mathlib.Omega.{arith}
 use lib.Dec.{leb}
 use lib.ListN.{length, getD, take, drop, length-append, take-append-drop}
-use lib.Seq.{length-take-le, take-append-add}
+use lib.Seq.{length-take-le, take-append-add, take-append-le, take-at}
+use borrow.Author.Tests.{leb-true, leb-false}
+use Rattle.layout.specs.Number.{Bytes}
 use Rattle.layout.specs.Layout.{Answer, finished, more, refused, Reading, Table, input, output, item}
 use Rattle.layout.specs.Transaction.{Head, transaction}
-use Rattle.layout.specs.Outcome.{Tables, Sizes, Outcome, roomOf, readingOf, partial}
+use Rattle.layout.specs.Outcome.{Tables, Sizes, Outcome, roomOf, zeros, laid, shown, readingOf, partial}
 use Rattle.layout.specs.Contents.{Contents, contentsBytes}
+use Rattle.layout.specs.Fields.{fieldsOf}
 use Rattle.layout.specs.Records.{headOf, tablesOf}
 use Rattle.layout.specs.Moments.{momentsOf, kept, tablesBy}
-use Rattle.layout.proofs.Reading.{taken-there, finished-not-more, refused-not-more}
-use Rattle.layout.proofs.Theorems.{stable, takes-all}
+use Rattle.layout.specs.Beginnings.{allEmpty, verdict, ending, endOf, outcomeBy, Starts}
+use Rattle.layout.proofs.Reading.{by-cases, taken-there, finished-not-more, refused-not-more, refused-not-finished}
+use Rattle.layout.proofs.Theorems.{stable, takes-all, taken-limit}
+use Rattle.layout.proofs.Whole.{judged}
+use Rattle.layout.proofs.Forming.{allowed-in, filled, allowed-matches, formed-matches}
+use Rattle.layout.proofs.Limits.{ending-ends, limited-finished, limit-exactly}
 use Rattle.layout.proofs.Timed.{by}
-use Rattle.layout.proofs.Timing.{tables-timed}
+use Rattle.layout.proofs.Timing.{tables-timed, tables-before}
 use Rattle.layout.proofs.Kept.{kept-at}
 use Rattle.layout.proofs.Laying.{tableOf, moments-beside, laid-kept}
 use Rattle.layout.proofs.RoundTrips.{Begins, formed, accepted}
@@ -37,8 +45,8 @@ module _ (z : Sizes) (xs : List ℕ) (x : Contents) (b : Begins z xs x) where
   pub tables-so-far : (k : ℕ) → partial z (take k xs) .tables ≡ tablesBy k z x
   tables-so-far k =
       ap (λ (l : List ℕ). partial z (take k l) .tables) (b .same)
-      ∙ tables-timed z x (formed z x (b .allowed) (b .fits)) (b .allowed .within) (b .rest) k
-      ∙ laid-kept x (b .allowed .witnesses) (by k) z (b .fits)
+      ∙ tables-timed z x (formed z x (b .allowed) (b .fits)) (b .allowed .within) (filled (length (x .inputs)) (length (x .outputs)) (x .witnesses) (b .allowed .witnesses)) (b .rest) k
+      ∙ laid-kept x (allowed-matches (length (x .inputs)) (length (x .outputs)) (x .witnesses) (b .allowed .witnesses)) (by k) z (b .fits)
 
   in-table : (t : Table) (k : ℕ) → tableOf t (tablesBy k z x) ≡ kept (by k) (tableOf t (momentsOf z x)) (tableOf t (tablesOf z x))
   in-table input k = refl
@@ -74,3 +82,51 @@ module _ (z : Sizes) (xs : List ℕ) (x : Contents) (b : Begins z xs x) where
       let cut : take k xs ≡ contentsBytes x ++ take (k - long) (b .rest) = ap (take k) (b .same) ∙ ap (λ (n : ℕ). take n (contentsBytes x ++ b .rest)) parts ∙ take-append-add (contentsBytes x) (b .rest) (k - long) in
       let whole = accepted z (take k xs) x (record { allowed = b .allowed; fits = b .fits; rest = take (k - long) (b .rest); same = cut }) in
       (whole, sym (tables-so-far k) ∙ ap (λ (o : Outcome). o .tables) whole)
+
+-- ---- of whatever length
+
+not-empty : (b : Bool) (g h : Head) → _≡_ {A = Answer Head} (cond b (refused 8 4) (finished g)) (finished h) → b ≡ false
+not-empty true g h e = absurd (refused-not-finished e)
+not-empty false g h e = refl
+
+module _ (z : Sizes) (xs : List ℕ) (x : Contents) (b : Starts z xs x) (bytes : Bytes xs) where
+  told-so : (a : Answer Head × ℕ) → cond (leb (ending x .1) (length xs)) (ending x) (more, length xs) ≡ a → (partial z xs .answer ≡ a .0) × (partial z xs .taken ≡ a .1)
+  told-so a f = let t = limit-exactly z xs x b ∙ f in (ap (λ (w : Answer Head × ℕ). w .0) t, ap (λ (w : Answer Head × ℕ). w .1) t)
+
+  by-now : leb (ending x .1) (length xs) ≡ false → partial z xs .answer ≡ more → partial z xs .tables ≡ tablesBy (length xs) z x
+  by-now later wants =
+      let k = length xs in
+      let cut : take k (contentsBytes x ++ b .behind) ≡ xs = ap (take k) (sym (b .same)) ∙ take-at xs (b .rest) k refl in
+      let whole = ap (λ (w : Answer Head × ℕ). w .1) (judged (roomOf z) x (b .formed) (b .behind)) in
+      let less = leb-false (ending x .1) k later in
+      ap (λ (l : List ℕ). partial z l .tables) (sym cut)
+      ∙ tables-before z x (b .formed) (b .behind) k (omega (arith, whole, less)) (ap (λ (l : List ℕ). partial z l .answer) cut ∙ wants)
+      ∙ laid-kept x (formed-matches (length (x .inputs)) (length (x .outputs)) (x .witnesses) (b .formed .witnesses)) (by k) z (b .formed .fits)
+
+  at-end : (a : Answer Head) → ending x .0 ≡ a → leb (ending x .1) (length xs) ≡ true → partial z xs .answer ≡ a → partial z xs .taken ≡ ending x .1 → partial z xs .tables ≡ shown a (tablesOf z x) (zeros z)
+  at-end (refused n p) v t answer taken = ap (λ (a : Answer Head). shown a (laid (readingOf z xs .log) (zeros z)) (zeros z)) answer
+  at-end more v t answer taken = absurd (ending-ends x v)
+  at-end (finished h) v t answer taken =
+      let g = b .formed in
+      let n = length (contentsBytes x) in
+      let said = limited-finished (fieldsOf 0 x) (verdict x) n h v in
+      let ends : ending x .1 ≡ n = said .1 in
+      let there : n ≤ length xs = omega (arith, leb-true (ending x .1) (length xs) t, ends) in
+      let in-limit = taken-limit z xs bytes in
+      let front : take n xs ≡ contentsBytes x = sym (take-append-le n xs (b .rest) there) ∙ ap (take n) (b .same) ∙ take-at (contentsBytes x) (b .behind) n refl in
+      let allowed = allowed-in (roomOf z) x g (not-empty (allEmpty (x .witnesses)) (headOf x) h (said .0)) (omega (arith, in-limit, taken, ends)) in
+      let begins : Begins z xs x = record { allowed = allowed; fits = g .fits; rest = drop n xs; same = sym (take-append-drop n xs) ∙ ap (λ (l : List ℕ). l ++ drop n xs) front } in
+      ap (λ (o : Outcome). o .tables) (accepted z xs x begins)
+
+  pub read-exactly : partial z xs ≡ outcomeBy (length xs) z x
+  read-exactly =
+      let wanting : Outcome = record { answer = more; taken = length xs; tables = tablesBy (length xs) z x } in
+      by-cases (leb (ending x .1) (length xs))
+      (λ t.
+      let s = told-so (ending x) (ap (λ (b : Bool). cond b (ending x) (more, length xs)) t) in
+      let o : partial z xs ≡ endOf z x = λ j. record { answer = s .0 j; taken = s .1 j; tables = at-end (ending x .0) refl t (s .0) (s .1) j } in
+      o ∙ ap (λ (b : Bool). cond b (endOf z x) wanting) (sym t))
+      (λ t.
+      let s = told-so (more, length xs) (ap (λ (b : Bool). cond b (ending x) (more, length xs)) t) in
+      let o : partial z xs ≡ wanting = λ j. record { answer = s .0 j; taken = s .1 j; tables = by-now t (s .0) j } in
+      o ∙ ap (λ (b : Bool). cond b (endOf z x) wanting) (sym t))

@@ -5,14 +5,12 @@
 use Prim.Native.Nat.{ℕ, zero, suc, _+_, _*_, _/_, _%_, _^_, _<_, _≤_}
 use mathlib.Core.Path.{_≡_, refl, sym, _∙_, ap, ap₂, subst}
 use mathlib.Core.List.{List, [], _∷_, _++_}
-use native.Mathlib.Nat.{mul-assoc, mul-comm, mul-add, pow-succ', add-mul, mul-le-mul-right, lt-of-lt-of-le, pow-le-pow-right, div-div-eq-div-mul, div-eq-of-lt, mul-add-div-right, mod-lt}
-use native.Mathlib.Numerals.{add-one}
+use native.Mathlib.Nat.{mul-assoc, mul-comm, mul-add, pow-succ', add-mul, mul-le-mul-right, lt-of-lt-of-le, pow-le-pow-right, div-div-eq-div-mul, div-eq-of-lt, mul-add-div-right}
 use native.Mathlib.Omega.{arith}
-use lib.ListN.{length, length-append, length-take, length-drop, getD, take, drop, List·getD-eq-default}
+use lib.ListN.{length, length-append, length-take, take, drop}
 use lib.Pow.{pow-add}
-use lib.Seq.{getD-drop, getD-take}
+use lib.Seq.{getD-drop}
 use lib.Dec.{lit<}
-use mathlib.Core.Bool.{Bool, true, false}
 use Rattle.layout.specs.Number.{Order, little, big, value, bytesOf, Bytes}
 
 -- the value of xs and then of m bytes that are worth v
@@ -62,7 +60,7 @@ length-bytes little (suc w) v = ap suc (length-bytes little w (v / 256))
 length-bytes big zero v = refl
 length-bytes big (suc w) v = ap suc (length-bytes big w v)
 
-below : (x : ℕ) (xs : List ℕ) → x < 256 → Bytes xs → Bytes (x ∷ xs)
+pub below : (x : ℕ) (xs : List ℕ) → x < 256 → Bytes xs → Bytes (x ∷ xs)
 below x xs h hs zero = h
 below x xs h hs (suc i) = hs i
 

@@ -12,7 +12,7 @@ use Rattle.layout.specs.Records.{itemsOf, itemCount, headOf, Fits, bodyC
 use Rattle.layout.specs.Writing.{body, inputRecords, outputRecords, itemRecords}
 use Rattle.layout.specs.Shows.{From, ValueFrom, TokenFrom, Zeros, MaybeIssuance, InputShown, OutputShown, InputWitnessShown, OutputWitnessShown, ItemShown, wireItems, Each, EachWitness, MaybeWitnesses, Shows}
 use Rattle.layout.proofs.Laying.{Wide, blanks, flat-wide, placed-wide, placed-length, input-long, input-witness-length, output-witness-length, inputRows, outputRows, itemRows, input-rows-wide, input-rows-length, output-rows-wide, output-rows-length, all-items-wide, all-items-length}
-use Rattle.layout.proofs.Showing.{column, Stands, stands-first, stands-next, stands-body, stands-lies, stands-behind, issuance-stands, input-stands, output-stands, witness-stands, Standing, Parts, input-records, output-records, item-records}
+use Rattle.layout.proofs.Showing.{parts-match, column, Stands, stands-first, stands-next, stands-body, stands-lies, stands-behind, issuance-stands, input-stands, output-stands, witness-stands, Standing, Parts, input-records, output-records, item-records}
 
 module _ (source : List ℕ) where
   -- ---- bodies
@@ -238,13 +238,14 @@ module _ (source : List ℕ) (x : Contents) (g : Parts source x) (s : Standing s
   pub own-shows : Shows (headOf x) (tablesOf z x) source x
   own-shows =
       let t = tablesOf z x in
+      let m = parts-match source x g in
       let i = input-records source x g s z in
       let o = output-records source x g s z in
       let n = item-records source x g s z in
       let news = inputWitnessRecords (witnessesAt x) (length (x .inputs)) (x .witnesses) in
       let news′ = outputWitnessRecords (witnessesAt x) (length (x .outputs)) (x .witnesses) in
-      let l₁ = table-length (z .inputs) 20 (length (x .inputs)) (inputRows x) (input-rows-wide x (g .witnesses)) (input-rows-length x (g .witnesses)) (omega (arith, fits .inputs)) in
-      let l₂ = table-length (z .outputs) 14 (length (x .outputs)) (outputRows x) (output-rows-wide x (g .witnesses)) (output-rows-length x (g .witnesses)) (omega (arith, fits .outputs)) in
+      let l₁ = table-length (z .inputs) 20 (length (x .inputs)) (inputRows x) (input-rows-wide x m) (input-rows-length x m) (omega (arith, fits .inputs)) in
+      let l₂ = table-length (z .outputs) 14 (length (x .outputs)) (outputRows x) (output-rows-wide x m) (output-rows-length x m) (omega (arith, fits .outputs)) in
       let l₃ = table-length (z .items) 2 (itemCount (x .witnesses)) (itemRows x) (all-items-wide (witnessesAt x) (x .witnesses)) (all-items-length (witnessesAt x) (x .witnesses)) (omega (arith, fits .items)) in
       record {
         version = refl;
@@ -256,7 +257,7 @@ module _ (source : List ℕ) (x : Contents) (g : Parts source x) (s : Standing s
         inputsHeld = omega (arith, l₁, fits .inputs);
         outputsHeld = omega (arith, l₂, fits .outputs);
         itemsHeld = omega (arith, l₃, fits .items);
-        inputRecords = subst (λ (l : List (List ℕ)). Each (InputShown source) l (x .inputs)) (sym i) (own-rows source (InputShown source) InputAllowed inputBytes inputColumns (own-input source) (x .inputs) (inputsAt x) news (g .inputs) (s .inputs) (input-witness-length (witnessesAt x) (length (x .inputs)) (length (x .outputs)) (x .witnesses) (g .witnesses)));
-        outputRecords = subst (λ (l : List (List ℕ)). Each (OutputShown source) l (x .outputs)) (sym o) (own-rows source (OutputShown source) OutputAllowed outputBytes outputColumns (own-output source) (x .outputs) (outputsAt x) news′ (g .outputs) (s .outputs) (output-witness-length (witnessesAt x) (length (x .outputs)) (length (x .inputs)) (x .witnesses) (g .witnesses)));
+        inputRecords = subst (λ (l : List (List ℕ)). Each (InputShown source) l (x .inputs)) (sym i) (own-rows source (InputShown source) InputAllowed inputBytes inputColumns (own-input source) (x .inputs) (inputsAt x) news (g .inputs) (s .inputs) (input-witness-length (witnessesAt x) (length (x .inputs)) (length (x .outputs)) (x .witnesses) m));
+        outputRecords = subst (λ (l : List (List ℕ)). Each (OutputShown source) l (x .outputs)) (sym o) (own-rows source (OutputShown source) OutputAllowed outputBytes outputColumns (own-output source) (x .outputs) (outputsAt x) news′ (g .outputs) (s .outputs) (output-witness-length (witnessesAt x) (length (x .outputs)) (length (x .inputs)) (x .witnesses) m));
         witnessRecords = own-maybe (headOf x) t (x .witnesses) (g .witnesses) (s .witnesses) i o n;
       }

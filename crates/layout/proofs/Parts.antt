@@ -1,49 +1,29 @@
 -- Every part of 01's layout codes its contents.
-use Prim.Native.Nat.{ℕ, zero, suc, _+_, _-_, _*_, _/_, _%_, _^_, _<_, _≤_}
+use Prim.Native.Nat.{ℕ, suc, _+_, _-_, _/_, _%_, _^_, _<_, _≤_}
 use mathlib.Core.Path.{_≡_, refl, sym, _∙_, ap, ap₂, subst}
 use mathlib.Core.Bool.{Bool, true, false, cond, not, _&&_, _||_}
-use mathlib.Core.List.{List, [], _∷_, _++_, append-assoc, append-nil}
+use mathlib.Core.List.{List, [], _∷_, _++_, append-assoc}
 use mathlib.Core.Option.{Option, none, some}
-use native.Mathlib.Nat.{add-assoc, add-zero, zero-add}
 use native.Mathlib.Omega.{arith}
-use lib.Dec.{leb, ltb, eqb, lit<}
-use lib.ListN.{length, take, drop, getD, length-append, take-append-drop}
+use lib.Dec.{leb, eqb, lit<}
+use lib.ListN.{length, take, drop, length-append, take-append-drop}
 use lib.Seq.{length-take-le, append-snoc}
-use borrow.Author.Tests.{leb-true, leb-false, le-leb, lt-leb, eqb-true, eqb-false, eq-eqb, ne-eqb}
-use Rattle.layout.specs.Number.{Order, little, big, value, bytesOf, Bytes}
-use Rattle.layout.specs.Layout.{Layout, number, opaque, enter, refuse, accept, Answer, finished, more, refused, Reading, reading, behind, noted, Entry, Table, input, output, item, Hidden, txid, blindingNonce, entropy, assetPart, noncePart, commitmentPart, scriptBody, proofBody, itemBody, run}
-use Rattle.layout.specs.Transaction.{Head, Room, limit, entry, within, furtherAt, numberAt, opaqueAt, announced, least, compactAt, countAt, bodyAt, valueAt, prefixedAt, each, alone, allOnes, flagBit, vout, flags, assetPrefix, noncePrefix, Seen, seen, issuanceAt, inputAt, outputAt, itemAt, stackAt, inputWitnessAt, outputWitnessAt, transaction}
-use Rattle.layout.specs.Contents.{Value, null, explicit, commitment, Token, absent, present, Issuance, Input, Output, InputWitness, OutputWitness, Witnesses, Contents, compactBytes, flat, bodyBytes, listBytes, valueBytes, tokenBytes, issuanceBytes, rawVout, inputBytes, outputBytes, inputWitnessBytes, outputWitnessBytes, flagOf, witnessesBytes, contentsBytes, Every, Fixed, ValueAllowed, TokenAllowed, isNull, IssuanceAllowed, confused, Flagged, InputAllowed, OutputAllowed, InputWitnessAllowed, OutputWitnessAllowed, inputEmpty, outputEmpty, all, WitnessesAllowed, MaybeAllowed, Allowed}
-use Rattle.layout.specs.Fields.{Field, field, fixed, compactFields, bodyFields, valueFields, tokenFields, fieldsEach, listFields, issuanceFields, inputFields, outputFields, inputWitnessFields, outputWitnessFields, limited}
-use Rattle.layout.specs.Sites.{counts, lengths, values, assets, nonces, issuances, What, Site, site, bodySites, listSites, issuanceSites, inputSites, outputSites, inputWitnessSites, outputWitnessSites}
-use Rattle.layout.specs.Records.{valuePrefix, tokenPrefix, high, low}
-use Rattle.layout.proofs.Number.{length-bytes, bytes-bytes, value-bytes, bytes-value, bytes-take, bytes-drop, value-small}
-use Rattle.layout.proofs.Reading.{by-cases, refused-not-finished}
-use Rattle.layout.proofs.Trace.{Event, shown, enters, entering, looked, passed, trace}
+use borrow.Author.Tests.{leb-true, leb-false, le-leb, lt-leb, eqb-true}
+use Rattle.layout.specs.Number.{little, big, value, bytesOf, Bytes}
+use Rattle.layout.specs.Layout.{Layout, number, opaque, enter, refuse, Reading, reading, behind, noted, Entry, input, output, item, Hidden, txid, blindingNonce, entropy, assetPart, noncePart, commitmentPart, scriptBody, proofBody, itemBody, run}
+use Rattle.layout.specs.Transaction.{Head, limit, entry, within, furtherAt, numberAt, opaqueAt, announced, least, compactAt, countAt, bodyAt, valueAt, prefixedAt, flagBit, vout, flags, assetPrefix, noncePrefix, Seen, seen, issuanceAt, inputAt, outputAt, itemAt, stackAt, inputWitnessAt, outputWitnessAt}
+use Rattle.layout.specs.Contents.{Value, null, explicit, commitment, Token, absent, present, Issuance, Input, Output, InputWitness, OutputWitness, compactBytes, flat, bodyBytes, listBytes, valueBytes, tokenBytes, issuanceBytes, rawVout, inputBytes, outputBytes, inputWitnessBytes, outputWitnessBytes, Every, Fixed, ValueAllowed, TokenAllowed, isNull, IssuanceAllowed, Flagged}
+use Rattle.layout.specs.Fields.{Short, InputFormed, OutputFormed, InputWitnessFormed, OutputWitnessFormed, Field, field, fixed, compactFields, bodyFields, valueFields, tokenFields, listFields, issuanceFields, inputFields, outputFields, inputWitnessFields, outputWitnessFields, limited}
+use Rattle.layout.specs.Sites.{counts, lengths, values, assets, nonces, issuances, Site, site, bodySites, listSites, issuanceSites, inputSites, outputSites, inputWitnessSites, outputWitnessSites}
+use Rattle.layout.specs.Records.{valuePrefix, tokenPrefix}
+use Rattle.layout.proofs.Number.{length-bytes, bytes-take}
+use Rattle.layout.proofs.Reading.{by-cases}
+use Rattle.layout.proofs.Trace.{Event, shown, enters, entering, looked, passed, trace, goes-as, goes-both}
 use Rattle.layout.proofs.Outpoint.{true-not-false, raw-small, raw-vout, raw-flags, raw-again, raw-apart, flags-three, issuing}
-use Rattle.layout.proofs.Codes.{Part, after, Finishes, Began, Codes, Comes, Stand, standing, then, noting, passing, failing, seen-as, began-as, handing, all-codes, logAll, eventsAll, list-codes, if-true, if-false, empty-codes, refuse-codes, GoodEach, logEach, nextEach, each-codes, settled, limited-append, within-run, within-back, within-judged, field-run, field-traced, field-judged, field-back, number-codes, opaque-codes, bytes-behind}
+use Rattle.layout.proofs.Compact.{one-byte, compact-form, short-form, announced-fits, forms, least-above, compact-some}
+use Rattle.layout.proofs.Codes.{every-as, Along, within-traced, Part, after, Finishes, Began, Codes, Comes, standing, then, noting, passing, failing, seen-as, began-as, handing, logAll, eventsAll, list-codes, if-true, if-false, empty-codes, refuse-codes, settled, limited-append, within-run, within-back, within-judged, field-run, field-traced, field-judged, field-back, number-codes, opaque-codes, bytes-behind}
 
 -- ---- counts and lengths
-
-pub one-byte : (f : ℕ) → f < 256 → bytesOf little 1 f ≡ f ∷ []
-unfolding bytesOf
-one-byte f h = ap (λ (n : ℕ). n ∷ []) (omega arith)
-
--- what a first byte above 252 announces is the shortest form of what is not below its least
-pub compact-form : (f n : ℕ) → 252 < f → f < 256 → least (announced f) ≤ n → n < 256 ^ announced f → compactBytes n ≡ f ∷ bytesOf little (announced f) n
-unfolding compactBytes
-compact-form f n above byte at-least small =
-    by-cases (eqb f 253)
-    (λ e. let q : f ≡ 253 = eqb-true f 253 e in
-    subst (λ (g : ℕ). least (announced g) ≤ n → n < 256 ^ announced g → compactBytes n ≡ g ∷ bytesOf little (announced g) n) (sym q)
-    (λ l s. rw (lt-leb n 252 (omega arith), le-leb n 65535 (omega arith))) at-least small)
-    (λ e. by-cases (eqb f 254)
-    (λ e′. let q : f ≡ 254 = eqb-true f 254 e′ in
-    subst (λ (g : ℕ). least (announced g) ≤ n → n < 256 ^ announced g → compactBytes n ≡ g ∷ bytesOf little (announced g) n) (sym q)
-    (λ l s. rw (lt-leb n 252 (omega arith), lt-leb n 65535 (omega arith), le-leb n 4294967295 (omega arith))) at-least small)
-    (λ e′. let q : f ≡ 255 = omega (arith, eqb-false f 253 e, eqb-false f 254 e′) in
-    subst (λ (g : ℕ). least (announced g) ≤ n → n < 256 ^ announced g → compactBytes n ≡ g ∷ bytesOf little (announced g) n) (sym q)
-    (λ l s. rw (lt-leb n 252 (omega arith), lt-leb n 65535 (omega arith), lt-leb n 4294967295 (omega arith))) at-least small))
 
 -- the first byte, and what it makes of the rest
 abbrev Furthered : ℕ → (ℕ → ℕ → Layout Head) → ℕ → ℕ → Layout Head
@@ -80,35 +60,6 @@ long-forth f n above byte at-least small at k ys e =
     ∙ ap₂ (λ (m p : ℕ). after 1 [] (after m [] (run (k n p) ys))) long (ap (λ (m : ℕ). at + 1 + m) long ∙ ends)
     ∙ (let r = run (k n (at + suc w)) ys in ap (λ (m : ℕ). reading (r .answer) m (r .log)) (omega arith))
 
-pub short-form : (n : ℕ) → n ≤ 252 → compactBytes n ≡ n ∷ []
-unfolding compactBytes
-short-form n h = rw (le-leb n 252 h)
-
-announced-short : (f : ℕ) → announced f ≤ 8
-announced-short f = by-cases (eqb f 253) (λ e. rw e (omega arith)) (λ e. by-cases (eqb f 254) (λ e′. rw (e, e′) (omega arith)) (λ e′. rw (e, e′) (omega arith)))
-
-announced-fits : (f n : ℕ) → n < 256 ^ announced f → n < 2 ^ 64
-announced-fits f n h =
-    by-cases (eqb f 253)
-    (λ e. let s = subst (λ (t : Bool). n < 256 ^ cond t 2 (cond (eqb f 254) 4 8)) e h in omega arith)
-    (λ e. by-cases (eqb f 254)
-    (λ e′. let s = subst (λ (t : Bool). n < 256 ^ cond t 4 8) e′ (subst (λ (t : Bool). n < 256 ^ cond t 2 (cond (eqb f 254) 4 8)) e h) in omega arith)
-    (λ e′. let s = subst (λ (t : Bool). n < 256 ^ cond t 4 8) e′ (subst (λ (t : Bool). n < 256 ^ cond t 2 (cond (eqb f 254) 4 8)) e h) in omega arith))
-
--- the four forms
-forms : (P : List ℕ → Type 0) (n : ℕ) → n < 2 ^ 64 → (n ≤ 252 → P (n ∷ [])) → ((f : ℕ) → 252 < f → f < 256 → least (announced f) ≤ n → n < 256 ^ announced f → P (f ∷ bytesOf little (announced f) n)) → P (compactBytes n)
-forms P n g short long =
-    by-cases (leb n 252)
-    (λ e. subst P (sym (short-form n (leb-true n 252 e))) (short (leb-true n 252 e)))
-    (λ e. by-cases (leb n 65535)
-    (λ e′. by-first 253 (lit< tt) (lit< tt) (omega (arith, leb-false n 252 e)) (omega (arith, leb-true n 65535 e′)))
-    (λ e′. by-cases (leb n 4294967295)
-    (λ e″. by-first 254 (lit< tt) (lit< tt) (omega (arith, leb-false n 65535 e′)) (omega (arith, leb-true n 4294967295 e″)))
-    (λ e″. by-first 255 (lit< tt) (lit< tt) (omega (arith, leb-false n 4294967295 e″)) (omega arith))))
-  where
-    by-first : (f : ℕ) → 252 < f → f < 256 → least (announced f) ≤ n → n < 256 ^ announced f → P (compactBytes n)
-    by-first f above byte at-least small = subst P (sym (compact-form f n above byte at-least small)) (long f above byte at-least small)
-
 Forth : ℕ → (ℕ → ℕ → Layout Head) → List ℕ → ℕ → List ℕ → Type 0
 Forth at k ys n bs = at + length bs ≤ limit → run (compactAt at k) (bs ++ ys) ≡ after (length bs) [] (run (k n (at + length bs)) ys)
 
@@ -120,44 +71,32 @@ compact-forth n g at k ys =
     subst (λ (m : ℕ). at + suc m ≤ limit → run (compactAt at k) ((f ∷ bytesOf little (announced f) n) ++ ys) ≡ after (suc m) [] (run (k n (at + suc m)) ys)) (sym (length-bytes little (announced f) n)) (long-forth f n above byte at-least small at k ys))
 
 -- the same of the trace
-short-traced : (n : ℕ) → n ≤ 252 → (at : ℕ) (k : ℕ → ℕ → Layout Head) (ys : List ℕ) → at + 1 ≤ limit → trace (compactAt at k) ((n ∷ []) ++ ys) ≡ shown n ∷ trace (k n (at + 1)) ys
-unfolding compactAt
-short-traced n h at k ys e =
-    let b = one-byte n (omega arith) in
-    ap (λ (l : List ℕ). trace (compactAt at k) (l ++ ys)) (sym b)
-    ∙ first-codes .traced n (omega arith) at (Furthered at k) ys (omega (arith, ap (λ (l : List ℕ). length l) b))
-    ∙ ap (λ (l : List ℕ). looked l ++ trace (Furthered at k n (at + length l)) ys) b
-    ∙ ap (λ (t : Bool). shown n ∷ trace (cond t (k n (at + 1)) (furtherAt at (at + 1) little (announced n) λ m at″. cond (leb (least (announced n)) m) (k m at″) (refuse 3 at))) ys) (le-leb n 252 h)
+Traced : ℕ → (ℕ → ℕ → Layout Head) → List ℕ → ℕ → List ℕ → Type 0
+Traced at k ys n bs = Along at bs (trace (compactAt at k) (bs ++ ys)) (looked bs) (trace (k n (at + length bs)) ys)
 
-long-traced : (f n : ℕ) → 252 < f → f < 256 → least (announced f) ≤ n → n < 256 ^ announced f → (at : ℕ) (k : ℕ → ℕ → Layout Head) (ys : List ℕ) → at + suc (announced f) ≤ limit → trace (compactAt at k) ((f ∷ bytesOf little (announced f) n) ++ ys) ≡ looked (f ∷ bytesOf little (announced f) n) ++ trace (k n (at + suc (announced f))) ys
+first-traced : (at f : ℕ) (k : ℕ → ℕ → Layout Head) (ys : List ℕ) → f < 256 → (t : Bool) → leb f 252 ≡ t → Along at (f ∷ []) (trace (compactAt at k) (f ∷ ys)) (looked (f ∷ [])) (trace (cond t (k f (at + 1)) (furtherAt at (at + 1) little (announced f) λ n at″. cond (leb (least (announced f)) n) (k n at″) (refuse 3 at))) ys)
 unfolding compactAt
-long-traced f n above byte at-least small at k ys e =
-    let b = one-byte f byte in
+first-traced at f k ys byte t e =
+    goes-as refl refl (ap (λ (t : Bool). trace (cond t (k f (at + 1)) (furtherAt at (at + 1) little (announced f) λ n at″. cond (leb (least (announced f)) n) (k n at″) (refuse 3 at))) ys) e)
+    (subst (λ (l : List ℕ). Along at l (trace (numberAt at little 1 (Furthered at k)) (l ++ ys)) (looked l) (trace (Furthered at k f (at + length l)) ys)) (one-byte f byte)
+    (first-codes .traced f (omega arith) at (Furthered at k) ys))
+
+short-traced : (n : ℕ) → n ≤ 252 → (at : ℕ) (k : ℕ → ℕ → Layout Head) (ys : List ℕ) → Traced at k ys n (n ∷ [])
+unfolding Traced
+short-traced n h at k ys = first-traced at n k ys (omega arith) true (le-leb n 252 h)
+
+long-traced : (f n : ℕ) → 252 < f → f < 256 → least (announced f) ≤ n → n < 256 ^ announced f → (at : ℕ) (k : ℕ → ℕ → Layout Head) (ys : List ℕ) → Traced at k ys n (f ∷ bytesOf little (announced f) n)
+unfolding Traced
+long-traced f n above byte at-least small at k ys =
     let w = announced f in
     let bs = bytesOf little w n in
-    let long : length bs ≡ w = length-bytes little w n in
-    let ends : at + 1 + w ≡ at + suc w = omega arith in
-    ap (λ (l : List ℕ). trace (compactAt at k) (l ++ (bs ++ ys))) (sym b)
-    ∙ first-codes .traced f (omega arith) at (Furthered at k) (bs ++ ys) (omega (arith, ap (λ (l : List ℕ). length l) b))
-    ∙ ap (λ (l : List ℕ). looked l ++ trace (Furthered at k f (at + length l)) (bs ++ ys)) b
-    ∙ ap (λ (t : Bool). shown f ∷ trace (cond t (k f (at + 1)) (furtherAt at (at + 1) little w λ m at″. cond (leb (least w) m) (k m at″) (refuse 3 at))) (bs ++ ys)) (lt-leb f 252 above)
-    ∙ ap (λ (t : List Event). shown f ∷ t) (further-codes at f .traced n (small, le-leb (least w) n at-least) (at + 1) k ys (omega arith))
-    ∙ ap (λ (p : ℕ). looked (f ∷ bs) ++ trace (k n p) ys) (ap (λ (m : ℕ). at + 1 + m) long ∙ ends)
-
-Traced : ℕ → (ℕ → ℕ → Layout Head) → List ℕ → ℕ → List ℕ → Type 0
-Traced at k ys n bs = at + length bs ≤ limit → trace (compactAt at k) (bs ++ ys) ≡ looked bs ++ trace (k n (at + length bs)) ys
-
-compact-traced : (n : ℕ) → n < 2 ^ 64 → (at : ℕ) (k : ℕ → ℕ → Layout Head) (ys : List ℕ) → Traced at k ys n (compactBytes n)
-unfolding Traced
-compact-traced n g at k ys =
-    forms (Traced at k ys n) n g (λ h. short-traced n h at k ys)
-    (λ f above byte at-least small.
-    subst (λ (m : ℕ). at + suc m ≤ limit → trace (compactAt at k) ((f ∷ bytesOf little (announced f) n) ++ ys) ≡ looked (f ∷ bytesOf little (announced f) n) ++ trace (k n (at + suc m)) ys) (sym (length-bytes little (announced f) n)) (long-traced f n above byte at-least small at k ys))
+    let ends : at + 1 + length bs ≡ at + suc (length bs) = omega arith in
+    goes-as refl refl (ap (λ (p : ℕ). trace (k n p) ys) ends)
+    (goes-both _ (looked (f ∷ [])) _ (looked bs) _ (λ h. omega arith) (λ h. omega arith)
+    (first-traced at f k (bs ++ ys) byte false (lt-leb f 252 above))
+    (further-codes at f .traced n (small, le-leb (least w) n at-least) (at + 1) k ys))
 
 -- and where it would end past the limit
-least-above : (w : ℕ) → 252 < least w
-least-above w = by-cases (eqb w 2) (λ e. rw e (lit< tt)) (λ e. by-cases (eqb w 4) (λ e′. rw (e, e′) (lit< tt)) (λ e′. rw (e, e′) (lit< tt)))
-
 Judged : ℕ → (ℕ → ℕ → Layout Head) → List ℕ → ℕ → List ℕ → Type 0
 Judged at k ys n bs = settled at (run (compactAt at k) (bs ++ ys)) ≡ limited (field at at (at + 1) ∷ cond (leb n 252) [] (field at (at + 1) (at + length bs) ∷ [])) (settled (at + length bs) (run (k n (at + length bs)) ys))
 
@@ -167,7 +106,7 @@ short-judged n h at k ys =
     let b = one-byte n (omega arith) in
     let t = le-leb n 252 h in
     ap (λ (l : List ℕ). settled at (run (compactAt at k) (l ++ ys))) (sym b)
-    ∙ first-codes .judged n (omega arith) (omega (arith, length-bytes little 1 n)) at (Furthered at k) ys
+    ∙ first-codes .judged n (omega arith) at (Furthered at k) ys
     ∙ ap (λ (l : List ℕ). limited (fixed at 1) (settled (at + length l) (run (Furthered at k n (at + length l)) ys))) b
     ∙ ap (λ (t : Bool). limited (fixed at 1) (settled (at + 1) (run (cond t (k n (at + 1)) (furtherAt at (at + 1) little (announced n) λ m at″. cond (leb (least (announced n)) m) (k m at″) (refuse 3 at))) ys))) t
     ∙ ap (λ (t : Bool). limited (field at at (at + 1) ∷ cond t [] (field at (at + 1) (at + 1) ∷ [])) (settled (at + 1) (run (k n (at + 1)) ys))) (sym t)
@@ -182,10 +121,10 @@ long-judged f n above byte at-least small at k ys =
     let e : at + 1 + length bs ≡ at + length (f ∷ bs) = omega arith in
     let not-short : leb n 252 ≡ false = lt-leb n 252 (omega (arith, least-above w)) in
     ap (λ (l : List ℕ). settled at (run (compactAt at k) (l ++ (bs ++ ys)))) (sym b)
-    ∙ first-codes .judged f (omega arith) (omega (arith, length-bytes little 1 f)) at (Furthered at k) (bs ++ ys)
+    ∙ first-codes .judged f (omega arith) at (Furthered at k) (bs ++ ys)
     ∙ ap (λ (l : List ℕ). limited (fixed at 1) (settled (at + length l) (run (Furthered at k f (at + length l)) (bs ++ ys)))) b
     ∙ ap (λ (t : Bool). limited (fixed at 1) (settled (at + 1) (run (cond t (k f (at + 1)) (furtherAt at (at + 1) little w λ m at″. cond (leb (least w) m) (k m at″) (refuse 3 at))) (bs ++ ys)))) (lt-leb f 252 above)
-    ∙ ap (limited (fixed at 1)) (further-codes at f .judged n (small, le-leb (least w) n at-least) (omega (arith, announced-short f)) (at + 1) k ys)
+    ∙ ap (limited (fixed at 1)) (further-codes at f .judged n (small, le-leb (least w) n at-least) (at + 1) k ys)
     ∙ ap (λ (m : ℕ). limited (fixed at 1) (limited (field at (at + 1) (at + 1 + m) ∷ []) (settled (at + 1 + length bs) (run (k n (at + 1 + length bs)) ys)))) (sym long)
     ∙ ap (λ (m : ℕ). limited (fixed at 1) (limited (field at (at + 1) m ∷ []) (settled m (run (k n m) ys)))) e
     ∙ ap (λ (t : Bool). limited (field at at (at + 1) ∷ cond t [] (field at (at + 1) (at + length (f ∷ bs)) ∷ [])) (settled (at + length (f ∷ bs)) (run (k n (at + length (f ∷ bs))) ys))) (sym not-short)
@@ -230,9 +169,9 @@ compact-codes =
             ends = subst (λ (l : List ℕ). at + length l ≤ limit) (sym form) (subst (λ (m : ℕ). m ≤ limit) long (v .ends));
             goes = subst (λ (l : List ℕ). Finishes (k n (at + length l)) (v .rest) a) (sym form) (subst (λ (m : ℕ). Finishes (k n m) (v .rest) a) long (v .goes));
           });
-      traced = λ n g at k ys h. compact-traced n g at k ys h;
-      judged = λ n g small at k ys. forms (Judged at k ys n) n g (λ h. short-judged n h at k ys) (λ f above byte at-least small. long-judged f n above byte at-least small at k ys);
-      reach = λ n g small at k. tt;
+      traced = λ n g at k ys. forms (Traced at k ys n) n g (λ h. short-traced n h at k ys) (λ f above byte at-least small. long-traced f n above byte at-least small at k ys);
+      judged = λ n g at k ys. forms (Judged at k ys n) n g (λ h. short-judged n h at k ys) (λ f above byte at-least small. long-judged f n above byte at-least small at k ys);
+      reach = λ n g at k. tt;
     }
 
 -- Count: not above the records left.
@@ -249,7 +188,11 @@ bodyLog note at xs = note (at + length (compactBytes (length xs))) (length xs) �
 abbrev pub bodyEvents : (ℕ → ℕ → Entry) → ℕ → List ℕ → List Event
 bodyEvents note at xs = looked (compactBytes (length xs)) ++ (enters (note (at + length (compactBytes (length xs))) (length xs)) ∷ passed xs)
 
-pub body-codes : (h : Hidden) (note : ℕ → ℕ → Entry) → Codes (λ at k. bodyAt at h note k) Bytes bodyBytes (bodyLog note) (bodyEvents note) bodyFields bodySites (λ xs. length xs)
+-- bytes, and 8 bytes can tell how many
+abbrev pub Body : List ℕ → Type 0
+Body xs = Bytes xs × Short xs
+
+pub body-codes : (h : Hidden) (note : ℕ → ℕ → Entry) → Codes (λ at k. bodyAt at h note k) Body bodyBytes (bodyLog note) (bodyEvents note) bodyFields bodySites (λ xs. length xs)
 unfolding bodyAt bodyBytes run trace
 body-codes hid note =
     standing lengths (λ at k. (hid, note, k, refl)) (record {
@@ -260,7 +203,7 @@ body-codes hid note =
           let go : ℕ → ℕ → Layout Head = λ n at′. within at (at′ + n) (enter (note at′ n) (opaque hid n (k n (at′ + n)))) in
           let e : at + length c + n ≡ at + length (c ++ xs) = omega arith in
           ap (run (compactAt at go)) (append-assoc c xs ys)
-          ∙ compact-codes .forth n (omega arith) at go (xs ++ ys) (omega arith)
+          ∙ compact-codes .forth n (g .1) at go (xs ++ ys) (omega arith)
           ∙ ap (λ (l : Layout Head). after (length c) [] (run l (xs ++ ys))) (within-run at (at + length c + n) (enter (note (at + length c) n) (opaque hid n (k n (at + length c + n)))) (omega arith))
           ∙ ap (λ (r : Reading Head). after (length c) [] (noted (note (at + length c) n) r)) (field-run n (λ _. k n (at + length c + n)) xs ys refl)
           ∙ ap (λ (m : ℕ). after (length c) [] (noted (note (at + length c) n) (behind n (run (k n m) ys)))) e
@@ -281,24 +224,24 @@ body-codes hid note =
           record {
             held = x;
             rest = drop n (u .rest);
-            good = bytes-take n (u .rest) rest-bytes;
+            good = (bytes-take n (u .rest) rest-bytes, omega (arith, u .good, long));
             same = u .same ∙ ap₂ (λ (b r : List ℕ). b ++ r) c-same (sym (take-append-drop n (u .rest))) ∙ sym (append-assoc (compactBytes (length x)) x (drop n (u .rest)));
             ends = subst (λ (m : ℕ). m ≤ limit) e (in-limit .0);
             goes = subst (λ (m : ℕ). Finishes (k (length x) m) (drop n (u .rest)) a) e (subst (λ (m : ℕ). Finishes (k m (at′ + n)) (drop n (u .rest)) a) long (there .1));
           };
-      traced = λ xs g at k ys h.
+      traced = λ xs g at k ys.
           let n = length xs in
           let c = compactBytes n in
           let both : length (c ++ xs) ≡ length c + n = length-append c xs in
           let go : ℕ → ℕ → Layout Head = λ n at′. within at (at′ + n) (enter (note at′ n) (opaque hid n (k n (at′ + n)))) in
-          let e : at + length c + n ≡ at + length (c ++ xs) = omega arith in
-          ap (trace (compactAt at go)) (append-assoc c xs ys)
-          ∙ compact-codes .traced n (omega arith) at go (xs ++ ys) (omega arith)
-          ∙ ap (λ (l : Layout Head). looked c ++ trace l (xs ++ ys)) (within-run at (at + length c + n) (enter (note (at + length c) n) (opaque hid n (k n (at + length c + n)))) (omega arith))
-          ∙ ap (λ (t : List Event). looked c ++ (enters (note (at + length c) n) ∷ t)) (field-traced true n (λ _. k n (at + length c + n)) xs ys refl)
-          ∙ sym (append-assoc (looked c) (enters (note (at + length c) n) ∷ passed xs) (trace (k n (at + length c + n)) ys))
-          ∙ ap (λ (m : ℕ). bodyEvents note at xs ++ trace (k n m) ys) e;
-      judged = λ xs g small at k ys.
+          let at′ = at + length c in
+          let e : at′ + n ≡ at + length (c ++ xs) = omega arith in
+          goes-as (ap (trace (compactAt at go)) (append-assoc c xs ys)) refl (ap (λ (m : ℕ). trace (k n m) ys) e)
+          (goes-both _ (looked c) _ (enters (note at′ n) ∷ passed xs) _ (λ h. omega arith) (λ h. omega arith)
+          (compact-codes .traced n (g .1) at go (xs ++ ys))
+          (within-traced at (at′ + n) (enter (note at′ n) (opaque hid n (k n (at′ + n)))) (xs ++ ys) (enters (note at′ n) ∷ passed xs) (trace (k n (at′ + n)) ys)
+          (λ h. ap (λ (t : List Event). enters (note at′ n) ∷ t) (field-traced true n (λ _. k n (at′ + n)) xs ys refl))));
+      judged = λ xs g at k ys.
           let n = length xs in
           let c = compactBytes n in
           let both : length (c ++ xs) ≡ length c + n = length-append c xs in
@@ -306,11 +249,11 @@ body-codes hid note =
           let at′ = at + length c in
           let e : at′ + n ≡ at + length (c ++ xs) = omega arith in
           ap (λ (l : List ℕ). settled at (run (compactAt at go) l)) (append-assoc c xs ys)
-          ∙ compact-codes .judged n (omega arith) (omega arith) at go (xs ++ ys)
+          ∙ compact-codes .judged n (g .1) at go (xs ++ ys)
           ∙ ap (limited (compactFields at n)) (within-judged at at′ (at′ + n) (enter (note at′ n) (opaque hid n (k n (at′ + n)))) (xs ++ ys) _ (λ h. field-judged at′ n (λ _. k n (at′ + n)) xs ys refl))
           ∙ sym (limited-append (compactFields at n) (field at at′ (at′ + n) ∷ []) (settled (at′ + n) (run (k n (at′ + n)) ys)))
           ∙ ap (λ (m : ℕ). limited (bodyFields at xs) (settled m (run (k n m) ys))) e;
-      reach = λ xs g small at k. tt;
+      reach = λ xs g at k. tt;
     })
 
 -- ---- prefixes and what stands behind them
@@ -399,12 +342,12 @@ tail-forth amount place null g = null-tail amount place 0 refl .forth tt tt
 tail-forth amount place (explicit v) g = explicit-tail amount place 1 refl refl .forth v g
 tail-forth amount place (commitment p part) g = part-tail amount place p (listed-other commitmentPrefix p 0 (g .0) refl) (listed-other commitmentPrefix p 1 (g .0) refl) (g .0) .forth part (g .1)
 
-tail-traced : (amount : ℕ → ℕ → Entry) (place : ℕ) (v : Value) → ValueAllowed v → (at : ℕ) (k : ℕ → ℕ → Layout Head) (ys : List ℕ) → at + length (tailBytes v) ≤ limit → trace (valueTail amount place (valuePrefix v) at k) (tailBytes v ++ ys) ≡ amountEvents amount v ++ trace (k (valuePrefix v) (at + length (tailBytes v))) ys
+tail-traced : (amount : ℕ → ℕ → Entry) (place : ℕ) (v : Value) → ValueAllowed v → (at : ℕ) (k : ℕ → ℕ → Layout Head) (ys : List ℕ) → Along at (tailBytes v) (trace (valueTail amount place (valuePrefix v) at k) (tailBytes v ++ ys)) (amountEvents amount v) (trace (k (valuePrefix v) (at + length (tailBytes v))) ys)
 tail-traced amount place null g = null-tail amount place 0 refl .traced tt tt
 tail-traced amount place (explicit v) g = explicit-tail amount place 1 refl refl .traced v g
 tail-traced amount place (commitment p part) g = part-tail amount place p (listed-other commitmentPrefix p 0 (g .0) refl) (listed-other commitmentPrefix p 1 (g .0) refl) (g .0) .traced part (g .1)
 
-tail-judged : (amount : ℕ → ℕ → Entry) (place : ℕ) (v : Value) → ValueAllowed v → length (tailBytes v) < 2 ^ 64 → (at : ℕ) (k : ℕ → ℕ → Layout Head) (ys : List ℕ) → settled at (run (valueTail amount place (valuePrefix v) at k) (tailBytes v ++ ys)) ≡ limited (tailFields at v) (settled (at + length (tailBytes v)) (run (k (valuePrefix v) (at + length (tailBytes v))) ys))
+tail-judged : (amount : ℕ → ℕ → Entry) (place : ℕ) (v : Value) → ValueAllowed v → (at : ℕ) (k : ℕ → ℕ → Layout Head) (ys : List ℕ) → settled at (run (valueTail amount place (valuePrefix v) at k) (tailBytes v ++ ys)) ≡ limited (tailFields at v) (settled (at + length (tailBytes v)) (run (k (valuePrefix v) (at + length (tailBytes v))) ys))
 tail-judged amount place null g = null-tail amount place 0 refl .judged tt tt
 tail-judged amount place (explicit v) g = explicit-tail amount place 1 refl refl .judged v g
 tail-judged amount place (commitment p part) g = part-tail amount place p (listed-other commitmentPrefix p 0 (g .0) refl) (listed-other commitmentPrefix p 1 (g .0) refl) (g .0) .judged part (g .1)
@@ -414,9 +357,9 @@ tail-codes amount place p =
     record {
       forth = λ v g at k ys h. subst (λ (q : ℕ). run (valueTail amount place q at k) (tailBytes v ++ ys) ≡ after (length (tailBytes v)) (amountLog amount v) (run (k q (at + length (tailBytes v))) ys)) (g .0) (tail-forth amount place v (g .1) at k ys h);
       back = tail-back amount place p;
-      traced = λ v g at k ys h. subst (λ (q : ℕ). trace (valueTail amount place q at k) (tailBytes v ++ ys) ≡ amountEvents amount v ++ trace (k q (at + length (tailBytes v))) ys) (g .0) (tail-traced amount place v (g .1) at k ys h);
-      judged = λ v g small at k ys. subst (λ (q : ℕ). settled at (run (valueTail amount place q at k) (tailBytes v ++ ys)) ≡ limited (tailFields at v) (settled (at + length (tailBytes v)) (run (k q (at + length (tailBytes v))) ys))) (g .0) (tail-judged amount place v (g .1) small at k ys);
-      reach = λ v g small at k. tt;
+      traced = λ v g at k ys. subst (λ (q : ℕ). Along at (tailBytes v) (trace (valueTail amount place q at k) (tailBytes v ++ ys)) (amountEvents amount v) (trace (k q (at + length (tailBytes v))) ys)) (g .0) (tail-traced amount place v (g .1) at k ys);
+      judged = λ v g at k ys. subst (λ (q : ℕ). settled at (run (valueTail amount place q at k) (tailBytes v ++ ys)) ≡ limited (tailFields at v) (settled (at + length (tailBytes v)) (run (k q (at + length (tailBytes v))) ys))) (g .0) (tail-judged amount place v (g .1) at k ys);
+      reach = λ v g at k. tt;
     }
 
 abbrev pub valueLog : (ℕ → ℕ → Entry) → (ℕ → ℕ → Entry) → ℕ → Value → List Entry
@@ -425,7 +368,7 @@ valueLog note amount at v = note (valuePrefix v) at ∷ amountLog amount v
 abbrev pub valueEvents : (ℕ → ℕ → Entry) → (ℕ → ℕ → Entry) → ℕ → Value → List Event
 valueEvents note amount at v = shown (valuePrefix v) ∷ enters (note (valuePrefix v) at) ∷ amountEvents amount v
 
-prefix-small : (v : Value) → ValueAllowed v → valuePrefix v < 256
+pub prefix-small : (v : Value) → ValueAllowed v → valuePrefix v < 256
 prefix-small null g = omega arith
 prefix-small (explicit v) g = omega arith
 prefix-small (commitment p part) g = by-cases (eqb p 8) (λ e. omega (arith, eqb-true p 8 e)) (λ e. by-cases (eqb p 9) (λ e′. omega (arith, eqb-true p 9 e′)) (λ e′. absurd (listed-none e e′ (g .0))))
@@ -449,7 +392,7 @@ unfolding valueAt
 value-codes note amount =
     standing values (λ at k. (note, amount, k, refl))
     (seen-as (λ v. (valuePrefix v, v))
-    (λ v g h. (prefix-small v g, (refl, g)))
+    (λ v g. (prefix-small v g, (refl, g)))
     value-spelled
     (λ at v g. refl)
     (λ at v g. ap (λ (l : List ℕ). looked l ++ (enters (note (valuePrefix v) at) ∷ amountEvents amount v)) (sym (one-byte (valuePrefix v) (prefix-small v g))) ∙ sym (append-snoc (looked (bytesOf little 1 (valuePrefix v))) (enters (note (valuePrefix v) at)) (amountEvents amount v)))
@@ -527,11 +470,11 @@ module _ (hid : Hidden) (listed : ℕ → Bool) (l : Listing listed) where
   token-forth place absent g = absent-tail hid listed place 0 refl .forth tt tt
   token-forth place (present p part) g = present-tail hid listed place p (listed-other listed p 0 (g .0) (l .zeroth)) (g .0) .forth part (g .1)
 
-  token-traced : (place : ℕ) (t : Token) → TokenAllowed listed t → (at : ℕ) (k : Unit {0} → ℕ → Layout Head) (ys : List ℕ) → at + length (tokenTailBytes t) ≤ limit → trace (tokenTail hid listed place (tokenPrefix t) at k) (tokenTailBytes t ++ ys) ≡ passed (tokenTailBytes t) ++ trace (k tt (at + length (tokenTailBytes t))) ys
+  token-traced : (place : ℕ) (t : Token) → TokenAllowed listed t → (at : ℕ) (k : Unit {0} → ℕ → Layout Head) (ys : List ℕ) → Along at (tokenTailBytes t) (trace (tokenTail hid listed place (tokenPrefix t) at k) (tokenTailBytes t ++ ys)) (passed (tokenTailBytes t)) (trace (k tt (at + length (tokenTailBytes t))) ys)
   token-traced place absent g = absent-tail hid listed place 0 refl .traced tt tt
   token-traced place (present p part) g = present-tail hid listed place p (listed-other listed p 0 (g .0) (l .zeroth)) (g .0) .traced part (g .1)
 
-  token-judged : (place : ℕ) (t : Token) → TokenAllowed listed t → length (tokenTailBytes t) < 2 ^ 64 → (at : ℕ) (k : Unit {0} → ℕ → Layout Head) (ys : List ℕ) → settled at (run (tokenTail hid listed place (tokenPrefix t) at k) (tokenTailBytes t ++ ys)) ≡ limited (tokenTailFields at t) (settled (at + length (tokenTailBytes t)) (run (k tt (at + length (tokenTailBytes t))) ys))
+  token-judged : (place : ℕ) (t : Token) → TokenAllowed listed t → (at : ℕ) (k : Unit {0} → ℕ → Layout Head) (ys : List ℕ) → settled at (run (tokenTail hid listed place (tokenPrefix t) at k) (tokenTailBytes t ++ ys)) ≡ limited (tokenTailFields at t) (settled (at + length (tokenTailBytes t)) (run (k tt (at + length (tokenTailBytes t))) ys))
   token-judged place absent g = absent-tail hid listed place 0 refl .judged tt tt
   token-judged place (present p part) g = present-tail hid listed place p (listed-other listed p 0 (g .0) (l .zeroth)) (g .0) .judged part (g .1)
 
@@ -540,9 +483,9 @@ module _ (hid : Hidden) (listed : ℕ → Bool) (l : Listing listed) where
       record {
         forth = λ t g at k ys h. subst (λ (q : ℕ). run (tokenTail hid listed place q at k) (tokenTailBytes t ++ ys) ≡ after (length (tokenTailBytes t)) [] (run (k tt (at + length (tokenTailBytes t))) ys)) (g .0) (token-forth place t (g .1) at k ys h);
         back = token-back hid listed place p;
-        traced = λ t g at k ys h. subst (λ (q : ℕ). trace (tokenTail hid listed place q at k) (tokenTailBytes t ++ ys) ≡ passed (tokenTailBytes t) ++ trace (k tt (at + length (tokenTailBytes t))) ys) (g .0) (token-traced place t (g .1) at k ys h);
-        judged = λ t g small at k ys. subst (λ (q : ℕ). settled at (run (tokenTail hid listed place q at k) (tokenTailBytes t ++ ys)) ≡ limited (tokenTailFields at t) (settled (at + length (tokenTailBytes t)) (run (k tt (at + length (tokenTailBytes t))) ys))) (g .0) (token-judged place t (g .1) small at k ys);
-        reach = λ t g small at k. tt;
+        traced = λ t g at k ys. subst (λ (q : ℕ). Along at (tokenTailBytes t) (trace (tokenTail hid listed place q at k) (tokenTailBytes t ++ ys)) (passed (tokenTailBytes t)) (trace (k tt (at + length (tokenTailBytes t))) ys)) (g .0) (token-traced place t (g .1) at k ys);
+        judged = λ t g at k ys. subst (λ (q : ℕ). settled at (run (tokenTail hid listed place q at k) (tokenTailBytes t ++ ys)) ≡ limited (tokenTailFields at t) (settled (at + length (tokenTailBytes t)) (run (k tt (at + length (tokenTailBytes t))) ys))) (g .0) (token-judged place t (g .1) at k ys);
+        reach = λ t g at k. tt;
       }
 
   token-small : (t : Token) → TokenAllowed listed t → tokenPrefix t < 256
@@ -558,7 +501,7 @@ module _ (hid : Hidden) (listed : ℕ → Bool) (l : Listing listed) where
   unfolding prefixedAt
   token-codes note =
       seen-as (λ t. (tokenPrefix t, t))
-      (λ t g h. (token-small t g, (refl, g)))
+      (λ t g. (token-small t g, (refl, g)))
       token-spelled
       (λ at t g. refl)
       (λ at t g. ap (λ (l : List ℕ). looked l ++ (enters (note (tokenPrefix t) at) ∷ passed (tokenTailBytes t))) (sym (one-byte (tokenPrefix t) (token-small t g))) ∙ sym (append-snoc (looked (bytesOf little 1 (tokenPrefix t))) (enters (note (tokenPrefix t) at)) (passed (tokenTailBytes t))))
@@ -601,7 +544,7 @@ module _ (i : ℕ) where
   issuance-codes =
       standing issuances (λ at k. (i, k tt, refl))
       (seen-as (λ x. (x .blindingNonce, (x .entropy, (x .amount, x .keys))))
-      (λ x g h. (g .blindingNonce, (g .entropy, (g .amount, (g .keys, ap₂ _&&_ (null-prefix (x .amount) (g .amount)) (null-prefix (x .keys) (g .keys)) ∙ g .notNull)))))
+      (λ x g. (g .blindingNonce, (g .entropy, (g .amount, (g .keys, ap₂ _&&_ (null-prefix (x .amount) (g .amount)) (null-prefix (x .keys) (g .keys)) ∙ g .notNull)))))
       (λ x g. refl)
       (λ at x g. refl)
       (λ at x g. refl)
@@ -655,19 +598,19 @@ module _ (i : ℕ) where
     issued-forth none g = without-flag (issuing raw ∙ lt-leb 2 (flags raw) (omega arith)) .forth tt tt
     issued-forth (some x) g = with-flag (issuing raw ∙ le-leb 2 (flags raw) (g .0)) .forth x (g .2)
 
-    issued-traced : (o : Option Issuance) → Flagged (flags raw) o → (at : ℕ) (k : Unit {0} → ℕ → Layout Head) (ys : List ℕ) → at + length (issuanceBytes o) ≤ limit → trace (issued at k) (issuanceBytes o ++ ys) ≡ issuedEvents at o ++ trace (k tt (at + length (issuanceBytes o))) ys
+    issued-traced : (o : Option Issuance) → Flagged (flags raw) o → (at : ℕ) (k : Unit {0} → ℕ → Layout Head) (ys : List ℕ) → Along at (issuanceBytes o) (trace (issued at k) (issuanceBytes o ++ ys)) (issuedEvents at o) (trace (k tt (at + length (issuanceBytes o))) ys)
     unfolding issuanceBytes
     issued-traced none g = without-flag (issuing raw ∙ lt-leb 2 (flags raw) (omega arith)) .traced tt tt
     issued-traced (some x) g = with-flag (issuing raw ∙ le-leb 2 (flags raw) (g .0)) .traced x (g .2)
 
-    issued-judged : (o : Option Issuance) → Flagged (flags raw) o → length (issuanceBytes o) < 2 ^ 64 → (at : ℕ) (k : Unit {0} → ℕ → Layout Head) (ys : List ℕ) → settled at (run (issued at k) (issuanceBytes o ++ ys)) ≡ limited (issuanceFields at o) (settled (at + length (issuanceBytes o)) (run (k tt (at + length (issuanceBytes o))) ys))
+    issued-judged : (o : Option Issuance) → Flagged (flags raw) o → (at : ℕ) (k : Unit {0} → ℕ → Layout Head) (ys : List ℕ) → settled at (run (issued at k) (issuanceBytes o ++ ys)) ≡ limited (issuanceFields at o) (settled (at + length (issuanceBytes o)) (run (k tt (at + length (issuanceBytes o))) ys))
     unfolding issuanceBytes
     issued-judged none g = without-flag (issuing raw ∙ lt-leb 2 (flags raw) (omega arith)) .judged tt tt
     issued-judged (some x) g = with-flag (issuing raw ∙ le-leb 2 (flags raw) (g .0)) .judged x (g .2)
 
-    issued-reach : (o : Option Issuance) → Flagged (flags raw) o → length (issuanceBytes o) < 2 ^ 64 → (at : ℕ) (k : Unit {0} → ℕ → Layout Head) → Every (Comes (issued at k) (issuanceBytes o) at) (issuanceSites at o)
+    issued-reach : (o : Option Issuance) → Flagged (flags raw) o → (at : ℕ) (k : Unit {0} → ℕ → Layout Head) → Every (Comes (issued at k) (issuanceBytes o) at) (issuanceSites at o)
     unfolding issuanceBytes
-    issued-reach none g = λ small at k. tt
+    issued-reach none g = λ at k. tt
     issued-reach (some x) g = with-flag (issuing raw ∙ le-leb 2 (flags raw) (g .0)) .reach x (g .2)
 
     issued-codes : Codes issued (Flagged (flags raw)) issuanceBytes issuedLog issuedEvents issuanceFields issuanceSites (λ o. tt)
@@ -705,20 +648,20 @@ module _ (i : ℕ) where
   flagged-three f none g = omega arith
   flagged-three f (some x) g = g .1
 
-  pub input-codes : Codes (λ at (k : Unit {0} → ℕ → Layout Head). inputAt i at (k tt)) InputAllowed inputBytes inputLog inputEvents inputFields inputSites (λ x. tt)
+  pub input-codes : Codes (λ at (k : Unit {0} → ℕ → Layout Head). inputAt i at (k tt)) InputFormed inputBytes inputLog inputEvents inputFields inputSites (λ x. tt)
   unfolding inputAt inputBytes
   input-codes =
       seen-as (λ x. (x .txid, (rawVout (x .vout) (x .flags), (x .script, (x .sequence, x .issuance)))))
-      (λ x g h.
-      let three = flagged-three (x .flags) (x .issuance) (g .issuance) in
-      (g .txid, (raw-small (x .vout) (x .flags) (g .outpoint) three, (g .script, (g .sequence, subst (λ (f : ℕ). Flagged f (x .issuance)) (sym (raw-flags (x .vout) (x .flags) (g .outpoint) three)) (g .issuance))))))
+      (λ x g.
+      let three = flagged-three (x .flags) (x .issuance) (g .allowed .issuance) in
+      (g .allowed .txid, (raw-small (x .vout) (x .flags) (g .allowed .outpoint) three, ((g .allowed .script, g .script), (g .allowed .sequence, subst (λ (f : ℕ). Flagged f (x .issuance)) (sym (raw-flags (x .vout) (x .flags) (g .allowed .outpoint) three)) (g .allowed .issuance))))))
       (λ x g. refl)
       (λ at x g.
-      let three = flagged-three (x .flags) (x .issuance) (g .issuance) in
-      let v = sym (raw-vout (x .vout) (x .flags) (g .outpoint) three) in
-      let f = sym (raw-flags (x .vout) (x .flags) (g .outpoint) three) in
+      let three = flagged-three (x .flags) (x .issuance) (g .allowed .issuance) in
+      let v = sym (raw-vout (x .vout) (x .flags) (g .allowed .outpoint) three) in
+      let f = sym (raw-flags (x .vout) (x .flags) (g .allowed .outpoint) three) in
       let raw = rawVout (x .vout) (x .flags) in
-      let l₁ = g .txid .long in
+      let l₁ = g .allowed .txid .long in
       let l₂ = length-bytes little 4 raw in
       let l₃ = length-bytes little 4 (x .sequence) in
       let e₁ : at + 36 ≡ at + length (x .txid) + length (bytesOf little 4 raw) = omega arith in
@@ -728,11 +671,11 @@ module _ (i : ℕ) where
       entry input i 1 (v j ∷ f j ∷ []) ∷
       (bodyLog scriptNote (e₁ j) (x .script) ++ (entry input i 5 (x .sequence ∷ []) ∷ issuedLog (e₂ j) (x .issuance))))
       (λ at x g.
-      let three = flagged-three (x .flags) (x .issuance) (g .issuance) in
-      let v = sym (raw-vout (x .vout) (x .flags) (g .outpoint) three) in
-      let f = sym (raw-flags (x .vout) (x .flags) (g .outpoint) three) in
+      let three = flagged-three (x .flags) (x .issuance) (g .allowed .issuance) in
+      let v = sym (raw-vout (x .vout) (x .flags) (g .allowed .outpoint) three) in
+      let f = sym (raw-flags (x .vout) (x .flags) (g .allowed .outpoint) three) in
       let raw = rawVout (x .vout) (x .flags) in
-      let l₁ = g .txid .long in
+      let l₁ = g .allowed .txid .long in
       let l₂ = length-bytes little 4 raw in
       let l₃ = length-bytes little 4 (x .sequence) in
       let e₁ : at + 36 ≡ at + length (x .txid) + length (bytesOf little 4 raw) = omega arith in
@@ -745,7 +688,7 @@ module _ (i : ℕ) where
       ++ issuedEvents (e₂ j) (x .issuance)))))
       (λ at x g.
       let raw = rawVout (x .vout) (x .flags) in
-      let l₁ = g .txid .long in
+      let l₁ = g .allowed .txid .long in
       let l₂ = length-bytes little 4 raw in
       let l₃ = length-bytes little 4 (x .sequence) in
       let e₀ : at + 32 ≡ at + length (x .txid) = omega arith in
@@ -754,7 +697,7 @@ module _ (i : ℕ) where
       λ j. fixed at 32 ++ (fixed (e₀ j) 4 ++ (bodyFields (e₁ j) (x .script) ++ (fixed (e₁ j + length (bodyBytes (x .script))) 4 ++ issuanceFields (e₂ j) (x .issuance)))))
       (λ at x g.
       let raw = rawVout (x .vout) (x .flags) in
-      let l₁ = g .txid .long in
+      let l₁ = g .allowed .txid .long in
       let l₂ = length-bytes little 4 raw in
       let l₃ = length-bytes little 4 (x .sequence) in
       let e₁ : at + 36 ≡ at + length (x .txid) + length (bytesOf little 4 raw) = omega arith in
@@ -765,7 +708,7 @@ module _ (i : ℕ) where
       let raw = x .1 .0 in
       let again = raw-again raw (g .1 .0) in (
         record { txid = x .0; vout = vout raw; flags = flags raw; script = x .1 .1 .0; sequence = x .1 .1 .1 .0; issuance = x .1 .1 .1 .1 },
-        record { txid = g .0; outpoint = raw-apart raw (g .1 .0); script = g .1 .1 .0; sequence = g .1 .1 .1 .0; issuance = g .1 .1 .1 .1 },
+        record { allowed = record { txid = g .0; outpoint = raw-apart raw (g .1 .0); script = g .1 .1 .0 .0; sequence = g .1 .1 .1 .0; issuance = g .1 .1 .1 .1 }; script = g .1 .1 .0 .1 },
         ap (λ (r : ℕ). (x .0, (r, (x .1 .1 .0, (x .1 .1 .1 .0, x .1 .1 .1 .1))))) again,
       ))
       (then {Q = λ _ s at₁ k. numberAt at₁ little 4 λ raw at₂. enter (entry input i 1 (vout raw ∷ flags raw ∷ [])) (bodyAt at₂ scriptBody scriptNote λ _ at₃. numberAt at₃ little 4 λ sequence at₄. enter (entry input i 5 (sequence ∷ [])) (issued raw at₄ k))}
@@ -798,18 +741,18 @@ module _ (i : ℕ) where
       let at₃ = at₂ + length (tokenBytes (x .nonce)) in
       tokenEvents (outNote 0) at (x .asset) ++ (valueEvents (outNote 2) (outNote 4) at₁ (x .value) ++ (tokenEvents (outNote 6) at₂ (x .nonce) ++ bodyEvents (outNote 8) at₃ (x .script)))
 
-  pub output-codes : Codes (λ at (k : Unit {0} → ℕ → Layout Head). outputAt i at (k tt)) OutputAllowed outputBytes outputLog outputEvents outputFields outputSites (λ x. tt)
+  pub output-codes : Codes (λ at (k : Unit {0} → ℕ → Layout Head). outputAt i at (k tt)) OutputFormed outputBytes outputLog outputEvents outputFields outputSites (λ x. tt)
   unfolding outputAt outputBytes
   output-codes =
       seen-as (λ x. (x .asset, (x .value, (x .nonce, x .script))))
-      (λ x g h. (g .asset, (g .value, (g .nonce, g .script))))
+      (λ x g. let a = g .allowed in (a .asset, (a .value, (a .nonce, (a .script, g .script)))))
       (λ x g. refl)
       (λ at x g. refl)
       (λ at x g. refl)
       (λ at x g. refl)
       (λ at x g. refl)
       (λ x g. refl)
-      (λ x g. (record { asset = x .0; value = x .1 .0; nonce = x .1 .1 .0; script = x .1 .1 .1 }, record { asset = g .0; value = g .1 .0; nonce = g .1 .1 .0; script = g .1 .1 .1 }, refl))
+      (λ x g. (record { asset = x .0; value = x .1 .0; nonce = x .1 .1 .0; script = x .1 .1 .1 }, record { allowed = record { asset = g .0; value = g .1 .0; nonce = g .1 .1 .0; script = g .1 .1 .1 .0 }; script = g .1 .1 .1 .1 }, refl))
       (then {Q = λ _ s at₁ k. valueAt at₁ (outNote 2) (outNote 4) λ _ at₂. prefixedAt at₂ noncePart noncePrefix (outNote 6) λ at₃. bodyAt at₃ scriptBody (outNote 8) λ _. k tt}
       (standing assets (λ at k. (assetPart, outNote 0, k tt, refl)) (token-codes assetPart assetPrefix asset-listing (outNote 0))) λ _ _ _.
       then {Q = λ _ s at₂ k. prefixedAt at₂ noncePart noncePrefix (outNote 6) λ at₃. bodyAt at₃ scriptBody (outNote 8) λ _. k tt}
@@ -829,13 +772,13 @@ itemLog j = bodyLog (itemNote j)
 abbrev pub itemEvents : ℕ → ℕ → List ℕ → List Event
 itemEvents j = bodyEvents (itemNote j)
 
-item-codes : (j : ℕ) → Codes (λ at (k : Unit {0} → ℕ → Layout Head). itemAt j at (k tt)) Bytes bodyBytes (itemLog j) (itemEvents j) bodyFields bodySites (λ x. tt)
+item-codes : (j : ℕ) → Codes (λ at (k : Unit {0} → ℕ → Layout Head). itemAt j at (k tt)) Body bodyBytes (itemLog j) (itemEvents j) bodyFields bodySites (λ x. tt)
 unfolding itemAt
 item-codes j = handing (λ n. tt) (body-codes itemBody (itemNote j))
 
 -- items from a number on; the first one starts at a position
 abbrev pub itemsLog : ℕ → ℕ → List (List ℕ) → List Entry
-itemsLog = logAll itemAt Bytes bodyBytes itemLog
+itemsLog = logAll itemAt Body bodyBytes itemLog
 
 abbrev pub itemsEvents : ℕ → ℕ → List (List ℕ) → List Event
 itemsEvents = eventsAll bodyBytes itemEvents
@@ -847,19 +790,11 @@ abbrev pub stackEvents : (ℕ → Entry) → ℕ → ℕ → List (List ℕ) →
 stackEvents note first at xs = entering (looked (compactBytes (length xs))) (note (length xs)) ++ itemsEvents first (at + length (compactBytes (length xs))) xs
 
 abbrev StackGood : ℕ → ℕ → List (List ℕ) → Type 0
-StackGood room first xs = ((length xs < 2 ^ 64) × (leb (length xs) (room - first) ≡ true)) × Every Bytes xs
+StackGood room first xs = ((length xs < 2 ^ 64) × (leb (length xs) (room - first) ≡ true)) × Every Body xs
 
 stack-codes : (room first : ℕ) (note : ℕ → Entry) → Codes (λ at k. stackAt room first at note k) (StackGood room first) (listBytes bodyBytes) (stackLog note first) (stackEvents note first) (listFields bodyBytes bodyFields) (listSites (room - first) bodyBytes bodySites) (λ xs. length xs)
 unfolding stackAt
-stack-codes room first note = list-codes itemAt Bytes bodyBytes itemLog itemEvents bodyFields bodySites first (noting (λ at n. note n) (count-codes (room - first))) item-codes
-
--- at least a byte for each
-pub compact-some : (n : ℕ) → 1 ≤ length (compactBytes n)
-unfolding compactBytes
-compact-some n =
-    by-cases (leb n 252) (λ e. rw e (omega arith))
-    (λ e. by-cases (leb n 65535) (λ e′. rw (e, e′) (omega arith))
-    (λ e′. by-cases (leb n 4294967295) (λ e″. rw (e, e′, e″) (omega arith)) (λ e″. rw (e, e′, e″) (omega arith))))
+stack-codes room first note = list-codes itemAt Body bodyBytes itemLog itemEvents bodyFields bodySites first (noting (λ at n. note n) (count-codes (room - first))) item-codes
 
 pub body-some : (xs : List ℕ) → 1 ≤ length (bodyBytes xs)
 unfolding bodyBytes
@@ -874,9 +809,13 @@ pub list-some : {X : Type 0} (f : X → List ℕ) → ((x : X) → 1 ≤ length 
 unfolding listBytes
 list-some f some-byte xs = omega (arith, flat-some f some-byte xs, length-append (compactBytes (length xs)) (flat f xs))
 
+bodies : (xs : List (List ℕ)) → Every Bytes xs → Every Short xs → Every Body xs
+bodies [] p q = tt
+bodies (x ∷ xs) p q = ((p .0, q .0), bodies xs (p .1) (q .1))
+
 -- the items fit in what is left
 pub record Stacks (room : ℕ) (s : Seen) (x : InputWitness) : Type 0 where
-  pub allowed : InputWitnessAllowed x
+  pub formed : InputWitnessFormed x
   pub script : leb (length (x .scriptItems)) (room - s .items) ≡ true
   pub pegin : leb (length (x .peginItems)) (room - (s .items + length (x .scriptItems))) ≡ true
 
@@ -910,16 +849,12 @@ module _ (room i : ℕ) (s : Seen) where
   unfolding inputWitnessAt inputWitnessBytes
   inputWitness-codes =
       seen-as (λ x. (x .amountProof, (x .keysProof, (x .scriptItems, x .peginItems))))
-      (λ x g h.
-      let a = g .allowed in
-      let b₁ = bodyBytes (x .amountProof) in
-      let b₂ = bodyBytes (x .keysProof) in
-      let b₃ = listBytes bodyBytes (x .scriptItems) in
-      let b₄ = listBytes bodyBytes (x .peginItems) in
-      let long : length b₃ + length b₄ < 2 ^ 64 = omega (arith, length-append b₁ (b₂ ++ (b₃ ++ b₄)), length-append b₂ (b₃ ++ b₄), length-append b₃ b₄) in
-      let few = list-some bodyBytes body-some (x .scriptItems) in
-      let few′ = list-some bodyBytes body-some (x .peginItems) in
-      (a .amountProof, (a .keysProof, (((omega arith, g .script), a .scriptItems), ((omega arith, g .pegin), a .peginItems)))))
+      (λ x g.
+      let f = g .formed in
+      let a = f .allowed in (
+        (a .amountProof, f .amountProof),
+        ((a .keysProof, f .keysProof), (((f .scriptCount, g .script), bodies (x .scriptItems) (a .scriptItems) (f .scriptItems)), ((f .peginCount, g .pegin), bodies (x .peginItems) (a .peginItems) (f .peginItems)))),
+      ))
       (λ x g. refl)
       (λ at x g. refl)
       (λ at x g. refl)
@@ -929,7 +864,15 @@ module _ (room i : ℕ) (s : Seen) where
       (λ x g. (
         record { amountProof = x .0; keysProof = x .1 .0; scriptItems = x .1 .1 .0; peginItems = x .1 .1 .1 },
         record {
-          allowed = record { amountProof = g .0; keysProof = g .1 .0; scriptItems = g .1 .1 .0 .1; peginItems = g .1 .1 .1 .1 };
+          formed = record {
+            allowed = record { amountProof = g .0 .0; keysProof = g .1 .0 .0; scriptItems = every-as Body Bytes (λ b g. g .0) (x .1 .1 .0) (g .1 .1 .0 .1); peginItems = every-as Body Bytes (λ b g. g .0) (x .1 .1 .1) (g .1 .1 .1 .1) };
+            amountProof = g .0 .1;
+            keysProof = g .1 .0 .1;
+            scriptCount = g .1 .1 .0 .0 .0;
+            scriptItems = every-as Body Short (λ b g. g .1) (x .1 .1 .0) (g .1 .1 .0 .1);
+            peginCount = g .1 .1 .1 .0 .0;
+            peginItems = every-as Body Short (λ b g. g .1) (x .1 .1 .1) (g .1 .1 .1 .1);
+          };
           script = g .1 .1 .0 .0 .1;
           pegin = g .1 .1 .1 .0 .1;
         },
@@ -954,18 +897,18 @@ module _ (i : ℕ) where
   abbrev pub outputWitnessEvents : ℕ → OutputWitness → List Event
   outputWitnessEvents at x = bodyEvents (outNote i 10) at (x .surjectionProof) ++ bodyEvents (outNote i 12) (at + length (bodyBytes (x .surjectionProof))) (x .rangeProof)
 
-  pub outputWitness-codes : (s : Seen) → Codes (λ at k. outputWitnessAt i s at k) OutputWitnessAllowed outputWitnessBytes outputWitnessLog outputWitnessEvents outputWitnessFields outputWitnessSites (outputSeen s)
+  pub outputWitness-codes : (s : Seen) → Codes (λ at k. outputWitnessAt i s at k) OutputWitnessFormed outputWitnessBytes outputWitnessLog outputWitnessEvents outputWitnessFields outputWitnessSites (outputSeen s)
   unfolding outputWitnessAt outputWitnessBytes
   outputWitness-codes s =
       seen-as (λ x. (x .surjectionProof, x .rangeProof))
-      (λ x g h. (g .surjectionProof, g .rangeProof))
+      (λ x g. ((g .allowed .surjectionProof, g .surjectionProof), (g .allowed .rangeProof, g .rangeProof)))
       (λ x g. refl)
       (λ at x g. refl)
       (λ at x g. refl)
       (λ at x g. refl)
       (λ at x g. refl)
       (λ x g. refl)
-      (λ x g. (record { surjectionProof = x .0; rangeProof = x .1 }, record { surjectionProof = g .0; rangeProof = g .1 }, refl))
+      (λ x g. (record { surjectionProof = x .0; rangeProof = x .1 }, record { allowed = record { surjectionProof = g .0 .0; rangeProof = g .1 .0 }; surjectionProof = g .0 .1; rangeProof = g .1 .1 }, refl))
       (then {Q = λ _ surjection at₁ k. bodyAt at₁ proofBody (outNote i 12) λ range. k (seen (s .items) (s .empty && eqb surjection 0 && eqb range 0))}
       (body-codes proofBody (outNote i 10)) λ _ surjection _.
       handing (λ range. seen (s .items) (s .empty && eqb (length surjection) 0 && eqb range 0)) (body-codes proofBody (outNote i 12)))

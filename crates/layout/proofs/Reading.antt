@@ -8,19 +8,18 @@
 --     prefix-free   no whole text of a layout goes on to another
 -- A number and a part that is never looked at are both a field: so many bytes, and then a layout that those bytes choose. What both
 -- need is proved once of a field.
-use Prim.Native.Nat.{ℕ, zero, suc, _+_, _-_, _<_, _≤_}
+use Prim.Native.Nat.{ℕ, _+_, _-_, _<_, _≤_}
 use mathlib.Core.Path.{_≡_, refl, sym, _∙_, ap, ap₂, subst}
-use mathlib.Core.Bool.{Bool, true, false, cond, not, _&&_}
-use mathlib.Core.List.{List, [], _∷_, _++_, append-assoc, append-nil}
-use native.Mathlib.Nat.{add-assoc, add-zero, zero-add}
+use mathlib.Core.Bool.{Bool, true, false, cond, not}
+use mathlib.Core.List.{List, [], _∷_, _++_, append-nil}
+use native.Mathlib.Nat.{add-assoc, add-zero}
 use native.Mathlib.Omega.{arith}
 use lib.Dec.{leb, ltb}
-use lib.ListN.{length, take, drop, getD, length-append, length-take, length-drop}
+use lib.ListN.{length, take, drop, getD, length-append, length-drop}
 use lib.Seq.{ext-getD, getD-take, getD-drop, take-append-le, drop-append-le, take-append-add, drop-append-add, length-take-le}
-use borrow.Author.Tests.{leb-true, leb-false, ltb-true, ltb-false, le-leb, lt-leb, lt-ltb, le-ltb}
-use Rattle.layout.specs.Number.{Order, value}
-use Rattle.layout.specs.Layout.{Layout, number, opaque, enter, refuse, accept, Answer, finished, more, refused, Reading, reading, behind, noted, Entry, Hidden, run, hides}
-use Rattle.layout.specs.Outcome.{bears}
+use borrow.Author.Tests.{leb-true, leb-false, le-leb, lt-leb, lt-ltb, le-ltb}
+use Rattle.layout.specs.Number.{value}
+use Rattle.layout.specs.Layout.{Layout, number, opaque, enter, refuse, accept, Answer, finished, more, refused, Reading, reading, behind, noted, Entry, run, hides}
 use Rattle.layout.proofs.Number.{joined, value-append}
 
 -- by the two values of a test, with the equation
@@ -274,7 +273,7 @@ module _ {A : Type 0} where
   rest-takes (refuse n p) xs ys = λ e. absurd (refused-not-more e)
   rest-takes (accept a) xs ys = λ e. absurd (finished-not-more e)
 
-  wants-or-ends : (a : Answer A) → {C : Type 0} → (a ≡ more → C) → ((a ≡ more → ⊥) → C) → C
+  pub wants-or-ends : (a : Answer A) → {C : Type 0} → (a ≡ more → C) → ((a ≡ more → ⊥) → C) → C
   wants-or-ends (finished a) f g = g (λ e. finished-not-more e)
   wants-or-ends more f g = f refl
   wants-or-ends (refused n p) f g = g (λ e. refused-not-more e)

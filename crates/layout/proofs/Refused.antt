@@ -1,25 +1,24 @@
 -- Where a reading refuses, the bytes taken show the fault that its number names, and its place is the fault's: one walk over the layout, which
 -- carries the bytes read so far.
-use Prim.Native.Nat.{ℕ, zero, suc, _+_, _-_, _*_, _/_, _%_, _^_, _<_, _≤_}
+use Prim.Native.Nat.{ℕ, zero, suc, _+_, _-_, _^_, _<_, _≤_}
 use mathlib.Core.Path.{_≡_, refl, sym, _∙_, ap, ap₂, subst}
 use mathlib.Core.Bool.{Bool, true, false, cond, _&&_, _||_}
 use mathlib.Core.List.{List, [], _∷_, _++_, append-assoc, append-nil}
-use native.Mathlib.Nat.{add-assoc, add-zero}
 use native.Mathlib.Omega.{arith}
 use lib.Dec.{leb, eqb}
 use lib.ListN.{length, getD, take, drop, length-append, List·getD-append}
 use lib.Seq.{take-add, take-at, length-take-le, getD-append-seam}
-use borrow.Author.Tests.{leb-true, leb-false, eqb-true, eqb-false, ne-eqb}
-use Rattle.layout.specs.Number.{Order, little, big, value, bytesOf, Bytes}
-use Rattle.layout.specs.Layout.{Layout, number, opaque, enter, refuse, accept, Answer, finished, more, refused, Reading, Entry, Hidden, txid, blindingNonce, entropy, assetPart, noncePart, commitmentPart, scriptBody, proofBody, itemBody, run}
-use Rattle.layout.specs.Transaction.{Head, Room, limit, within, furtherAt, numberAt, opaqueAt, announced, least, compactAt, countAt, bodyAt, valueAt, prefixedAt, each, alone, flagBit, assetPrefix, noncePrefix, Seen, seen, issuanceAt, inputAt, outputAt, itemAt, stackAt, inputWitnessAt, outputWitnessAt, transaction}
-use Rattle.layout.specs.Outcome.{Sizes, roomOf, readingOf, partial}
+use borrow.Author.Tests.{leb-true, leb-false, eqb-true, eqb-false}
+use Rattle.layout.specs.Number.{Order, little, big, value, Bytes}
+use Rattle.layout.specs.Layout.{Layout, number, opaque, enter, refuse, accept, more, refused, Reading, Entry, Hidden, txid, blindingNonce, entropy, assetPart, noncePart, commitmentPart, scriptBody, proofBody, itemBody, run}
+use Rattle.layout.specs.Transaction.{Head, Room, limit, within, furtherAt, opaqueAt, announced, least, compactAt, countAt, bodyAt, valueAt, prefixedAt, each, alone, flagBit, assetPrefix, noncePrefix, Seen, seen, issuanceAt, inputAt, outputAt, itemAt, stackAt, inputWitnessAt, outputWitnessAt, transaction}
+use Rattle.layout.specs.Outcome.{Sizes, roomOf, partial}
 use Rattle.layout.specs.Contents.{compactBytes}
 use Rattle.layout.specs.Refusals.{Ends, Left, inputs, outputs, items, fixedWidth, listedValue, listedAsset, listedNonce, Refusal, fixedPast, furtherPast, bodyPast, notShortest, tooMany, notListed, nullIssuance, flagAbove, allEmpty}
 use Rattle.layout.proofs.Number.{bytes-take, bytes-drop, bytes-value, value-small}
 use Rattle.layout.proofs.Reading.{by-cases, fieldRun, field-case, refused-not-more, refused-not-finished}
 use Rattle.layout.proofs.Outpoint.{true-not-false}
-use Rattle.layout.proofs.Parts.{compact-form, short-form, compact-some}
+use Rattle.layout.proofs.Compact.{compact-form, short-form, compact-some}
 use Rattle.layout.proofs.Judging.{and-true}
 
 module _ (room : Room) where

@@ -32,7 +32,8 @@ use Rattle.layout.specs.Shows.{Shows}
 use Rattle.layout.specs.Writing.{contentsOf, Fault, passes, fault, _also_, unless, tableFaults, writtenBytes, faults, Verdict, wrote, unwritten, verdict, over, touched, Written, writtenLength, writing}
 use Rattle.layout.proofs.Reading.{by-cases, refused-not-finished}
 use Rattle.layout.proofs.Theorems.{finish-finished, follow-finished}
-use Rattle.layout.proofs.Whole.{reads, found}
+use Rattle.layout.proofs.Whole.{wholeLog, reads, found}
+use Rattle.layout.proofs.Forming.{formed-in, allowed-in, filled, allowed-matches}
 use Rattle.layout.proofs.Laying.{laid-whole}
 use Rattle.layout.proofs.Showing.{Standing, standing, Parts}
 use Rattle.layout.proofs.Own.{own-shows}
@@ -52,13 +53,14 @@ pub record Begins (z : Sizes) (xs : List ℕ) (x : Contents) : Type 0 where
   pub same : xs ≡ contentsBytes x ++ rest
 
 pub formed : (z : Sizes) (x : Contents) → Allowed x → Fits (roomOf z) x → Formed (roomOf z) x
-formed z x a f = record { version = a .version; inputs = a .inputs; outputs = a .outputs; locktime = a .locktime; witnesses = a .witnesses; fits = f }
+formed z x a f = formed-in (roomOf z) x a f
 
 pub accepted : (z : Sizes) (xs : List ℕ) (x : Contents) → Begins z xs x → partial z xs ≡ record { answer = finished (headOf x); taken = length (contentsBytes x); tables = tablesOf z x }
 accepted z xs x b =
     ap (partial z) (b .same)
     ∙ ap (outcome z) (reads (roomOf z) x (formed z x (b .allowed) (b .fits)) (b .allowed .within) (b .rest))
-    ∙ ap (λ (t : Tables). record { answer = finished (headOf x); taken = length (contentsBytes x); tables = t }) (laid-whole x (b .allowed .witnesses) z (b .fits))
+    ∙ ap (λ (t : Bool). outcome z (reading (cond t (refused 8 4) (finished (headOf x))) (length (contentsBytes x)) (wholeLog (roomOf z) 0 x))) (filled (length (x .inputs)) (length (x .outputs)) (x .witnesses) (b .allowed .witnesses))
+    ∙ ap (λ (t : Tables). record { answer = finished (headOf x); taken = length (contentsBytes x); tables = t }) (laid-whole x (allowed-matches (length (x .inputs)) (length (x .outputs)) (x .witnesses) (b .allowed .witnesses)) z (b .fits))
 
 pub begins : (z : Sizes) (xs : List ℕ) (h : Head) → Bytes xs → partial z xs .answer ≡ finished h → (x : Contents) × Begins z xs x
 begins z xs h bs e =
@@ -66,7 +68,7 @@ begins z xs h bs e =
     let f = u .formed in (
       u .contents,
       record {
-        allowed = record { version = f .version; inputs = f .inputs; outputs = f .outputs; locktime = f .locktime; witnesses = f .witnesses; within = u .within };
+        allowed = allowed-in (roomOf z) (u .contents) f (u .notEmpty) (u .within);
         fits = f .fits;
         rest = u .rest;
         same = u .same;

@@ -12,6 +12,7 @@ use Rattle.layout.specs.Contents.{Value, null, explicit, commitment, Iss
 use Rattle.layout.specs.Records.{itemCount, valuePrefix, inputsAt, outputsAt, witnessesAt, tablesOf}
 use Rattle.layout.specs.Writing.{records, body, valueWidth}
 use Rattle.layout.proofs.Number.{length-bytes}
+use Rattle.layout.proofs.Forming.{Matches, allowed-matches}
 use Rattle.layout.proofs.Laying.{Wide, inputRows, outputRows, itemRows, input-rows-wide, input-rows-length, output-rows-wide, output-rows-length, all-items-wide, all-items-length}
 use Rattle.layout.proofs.Parts.{listed-other, commitmentPrefix}
 
@@ -200,12 +201,15 @@ module _ (source : List ℕ) (x : Contents) where
     pub outputs : Every OutputAllowed (x .outputs)
     pub witnesses : MaybeAllowed (length (x .inputs)) (length (x .outputs)) (x .witnesses)
 
+  pub parts-match : Parts → Matches (length (x .inputs)) (length (x .outputs)) (x .witnesses)
+  parts-match g = allowed-matches (length (x .inputs)) (length (x .outputs)) (x .witnesses) (g .witnesses)
+
   module _ (g : Parts) (s : Standing) (z : Sizes) where
     pub input-records : records 20 (length (x .inputs)) (tablesOf z x .inputs) ≡ inputRows x
-    input-records = records-rows 20 (inputRows x) (length (x .inputs)) _ (input-rows-wide x (g .witnesses)) (input-rows-length x (g .witnesses))
+    input-records = records-rows 20 (inputRows x) (length (x .inputs)) _ (input-rows-wide x (parts-match g)) (input-rows-length x (parts-match g))
 
     pub output-records : records 14 (length (x .outputs)) (tablesOf z x .outputs) ≡ outputRows x
-    output-records = records-rows 14 (outputRows x) (length (x .outputs)) _ (output-rows-wide x (g .witnesses)) (output-rows-length x (g .witnesses))
+    output-records = records-rows 14 (outputRows x) (length (x .outputs)) _ (output-rows-wide x (parts-match g)) (output-rows-length x (parts-match g))
 
     pub item-records : records 2 (itemCount (x .witnesses)) (tablesOf z x .items) ≡ itemRows x
     item-records = records-rows 2 (itemRows x) (itemCount (x .witnesses)) _ (all-items-wide (witnessesAt x) (x .witnesses)) (all-items-length (witnessesAt x) (x .witnesses))

@@ -1,27 +1,30 @@
 -- What follows from document 01's reading alone, in its own terms. docs/THEOREMS.md says which sentence each carries.
-use Prim.Native.Nat.{ℕ, zero, suc, _+_, _-_, _*_, _^_, _<_, _≤_}
+use Prim.Native.Nat.{ℕ, zero, suc, _+_, _*_, _^_, _<_, _≤_}
 use mathlib.Core.Path.{_≡_, refl, sym, _∙_, ap, ap₂, subst}
 use mathlib.Core.List.{List, [], _∷_, _++_, append-nil}
-use mathlib.Core.Bool.{Bool, cond}
+use mathlib.Core.Bool.{Bool, true, false, cond, not, _&&_}
 use mathlib.Core.Logic.{_↔_}
 use mathlib.Core.Option.{Option, some, none}
-use native.Mathlib.Nat.{zero-add, mul-suc, mul-le-mul-left, le-trans}
+use native.Mathlib.Nat.{zero-add, mul-zero, mul-suc, mul-le-mul-left, le-trans}
 use native.Mathlib.Omega.{arith}
-use lib.Dec.{ltb, lit<}
-use lib.ListN.{length, getD, replicate, set, length-set}
-use lib.Seq.{sets, getD-set-other, getD-set-same, set-out}
-use borrow.Author.Tests.{ltb-true, ltb-false, lt-ltb, le-ltb}
+use lib.Dec.{ltb}
+use lib.ListN.{length, getD, drop, replicate, set, length-set}
+use lib.Seq.{sets, getD-set-other, getD-take, getD-drop}
+use borrow.Author.Tests.{ltb-true, lt-ltb, le-ltb}
 use Rattle.layout.specs.Number.{Bytes}
-use Rattle.layout.specs.Layout.{Layout, Answer, finished, more, refused, Reading, reading, Entry, Table, input, output, item, run}
-use Rattle.layout.specs.Transaction.{Head, Room, limit, transaction}
-use Rattle.layout.specs.Outcome.{Tables, Sizes, width, roomOf, zeros, change, lay, laid, Outcome, shown, outcome, readingOf, partial, finish, ended, atOnce, follow, strictly, strict, bears, Bearing, Agree, numberOf, placeOf, headShown, noHead}
+use Rattle.layout.specs.Layout.{Answer, finished, more, refused, Reading, reading, Entry, Table, input, output, item, run, hides}
+use Rattle.layout.specs.Transaction.{Head, limit, transaction}
+use Rattle.layout.specs.Outcome.{Tables, Sizes, width, roomOf, zeros, change, lay, laid, shown, outcome, readingOf, partial, finish, ended, atOnce, follow, strictly, strict, Bearing, Agree, numberOf, placeOf, headShown, noHead}
 use Rattle.layout.specs.Contents.{Issuance, Input, flat, issuanceBytes, inputBytes, contentsBytes, Every, Flagged, InputAllowed}
 use Rattle.layout.specs.Records.{headOf, issuanceColumns, inputColumns, placed, beside, inputsAt, witnessesAt, inputWitnessRecords}
-use Rattle.layout.specs.Writing.{records}
+use Rattle.layout.specs.Writing.{records, _!_}
 use Rattle.layout.proofs.Reading as reading-laws
-use Rattle.layout.proofs.Reading.{by-cases, chain, rest, finished-not-more, refused-not-finished}
-use Rattle.layout.proofs.Sound.{Each, Fair, Inside, Kept, Done, Rows, AtMost, rowsOf, counts, rows, promised, endOf, transaction-kept}
+use Rattle.layout.proofs.Reading.{by-cases, chain, rest, refused-not-finished}
+use Rattle.layout.proofs.Sound.{Each, Fair, Kept, Done, Rows, AtMost, rowsOf, counts, rows, promised, endOf, transaction-kept}
 use Rattle.layout.proofs.Whole.{wholeLog, reads, found}
+use Rattle.layout.specs.Fields.{InputFormed}
+use Rattle.layout.proofs.Codes.{every-as}
+use Rattle.layout.proofs.Forming.{formed-matches}
 use Rattle.layout.proofs.Laying.{inputRows, input-rows-wide, input-rows-length, laid-whole}
 use Rattle.layout.proofs.Showing.{Stands, stands-first, stands-next, stands-lies, value-width, issuance-stands, input-stands, standing, records-rows}
 
@@ -281,12 +284,13 @@ issuance-within z xs bytes h e =
     let u = found (roomOf z) xs h bytes e in
     let x = u .contents in
     let g = u .formed in
-    let r = ap (readingOf z) (u .same) ∙ reads (roomOf z) x g (u .within) (u .rest) in
+    let m = formed-matches (length (x .inputs)) (length (x .outputs)) (x .witnesses) (g .witnesses) in
+    let r = ap (readingOf z) (u .same) ∙ reads (roomOf z) x g (u .within) (u .rest) ∙ ap (λ (t : Bool). reading (cond t (refused 8 4) (finished (headOf x))) (length (contentsBytes x)) (wholeLog (roomOf z) 0 x)) (u .notEmpty) in
     let same : headOf x ≡ h = finished-same (sym (ap (λ (y : Reading Head). y .answer) r) ∙ e) in
     let rows : records (width input) (length (x .inputs)) (laid (wholeLog (roomOf z) 0 x) (zeros z) .inputs) ≡ inputRows x =
-    ap (λ (t : Tables). records (width input) (length (x .inputs)) (t .inputs)) (laid-whole x (g .witnesses) z (g .fits))
-    ∙ records-rows (width input) (inputRows x) (length (x .inputs)) _ (input-rows-wide x (g .witnesses)) (input-rows-length x (g .witnesses)) in
-    let all = rows-issued (contentsBytes x) (x .inputs) (inputsAt x) (inputWitnessRecords (witnessesAt x) (length (x .inputs)) (x .witnesses)) (g .inputs) (standing (contentsBytes x) x (itself-stands (contentsBytes x)) .inputs) in
+    ap (λ (t : Tables). records (width input) (length (x .inputs)) (t .inputs)) (laid-whole x m z (g .fits))
+    ∙ records-rows (width input) (inputRows x) (length (x .inputs)) _ (input-rows-wide x m) (input-rows-length x m) in
+    let all = rows-issued (contentsBytes x) (x .inputs) (inputsAt x) (inputWitnessRecords (witnessesAt x) (length (x .inputs)) (x .witnesses)) (every-as InputFormed InputAllowed (λ y f. f .allowed) (x .inputs) (g .inputs)) (standing (contentsBytes x) x (itself-stands (contentsBytes x)) .inputs) in
     subst (λ (k : Head). Every (Issued (readingOf z xs .taken)) (records (width input) (k .inputs) (partial z xs .tables .inputs))) same
     (subst (λ (y : Reading Head). Every (Issued (y .taken)) (records (width input) (length (x .inputs)) (outcome z y .tables .inputs))) (sym r)
     (subst (λ (rs : List (List ℕ)). Every (Issued (length (contentsBytes x))) rs) (sym rows) all))
@@ -319,3 +323,31 @@ follow-stays (refused k p) n m f = refl
 
 pub strict-other : (z : Sizes) (xs : List ℕ) → ((h : Head) → atOnce z xs .answer ≡ finished h → length xs ≤ atOnce z xs .taken) → strict z xs ≡ atOnce z xs
 strict-other z xs f = ap (λ (b : Answer Head). outcome z (reading b (readingOf z xs .taken) (readingOf z xs .log))) (follow-stays (atOnce z xs .answer) (readingOf z xs .taken) (length xs) f)
+
+-- ---- words that other statements use, said by themselves
+
+taken-shown : (a b : Bool) → (a && not b) ≡ true → (a ≡ true) × (b ≡ false)
+taken-shown true true e = absurd (let z : _≡_ {A = ℕ} 0 1 = ap (λ (t : Bool). cond t 1 0) e in omega arith)
+taken-shown true false e = (refl, refl)
+taken-shown false b e = absurd (let z : _≡_ {A = ℕ} 0 1 = ap (λ (t : Bool). cond t 1 0) e in omega arith)
+
+-- Bearing are all bytes that are taken, except those that are never looked at: of any bytes, finished or not.
+pub bearing-is : (z : Sizes) (xs : List ℕ) (i : ℕ) → Bearing z xs i ↔ ((i < partial z xs .taken) × (hides (transaction (roomOf z)) xs i ≡ false))
+bearing-is z xs i = (
+  λ b. let p = taken-shown (ltb i (readingOf z xs .taken)) (hides (transaction (roomOf z)) xs i) b in (ltb-true i (readingOf z xs .taken) (p .0), p .1),
+  λ p. ap₂ (λ (s t : Bool). s && not t) (lt-ltb i (readingOf z xs .taken) (p .0)) (p .1),
+)
+
+-- A record's number is the number that stands there, whatever the others are.
+pub number-is : (r : List ℕ) (c : ℕ) → r ! c ≡ getD r c 0
+number-is r c = refl
+
+-- Number c of record i stands at i times the width, and c: record by record, with nothing between.
+pub record-number : (w n : ℕ) (xs : List ℕ) (i c : ℕ) → i < n → c < w → getD (records w n xs) i [] ! c ≡ getD xs (w * i + c) 0
+unfolding records
+record-number w zero xs i c less wide = absurd (omega arith)
+record-number w (suc n) xs zero c less wide = getD-take w xs c 0 wide ∙ (let e : c ≡ w * 0 + c = omega (arith, mul-zero w) in ap (λ (m : ℕ). getD xs m 0) e)
+record-number w (suc n) xs (suc i) c less wide =
+    record-number w n (drop w xs) i c (omega arith) wide
+    ∙ getD-drop w xs (w * i + c) 0
+    ∙ (let e : w + (w * i + c) ≡ w * suc i + c = omega (arith, mul-suc w i) in ap (λ (m : ℕ). getD xs m 0) e)

@@ -7,13 +7,13 @@ use mathlib.Core.List.{List, [], _∷_, _++_}
 use mathlib.Core.Option.{Option, none, some}
 use lib.Dec.{leb}
 use lib.ListN.{length}
-use Rattle.layout.specs.Number.{Bytes}
 use Rattle.layout.specs.Layout.{Layout, Entry, input}
 use Rattle.layout.specs.Transaction.{Head, Room, entry, inputAt, outputAt, itemAt}
-use Rattle.layout.specs.Contents.{Value, null, explicit, commitment, Token, Issuance, Input, Output, InputWitness, OutputWitness, Witnesses, Contents, compactBytes, flat, bodyBytes, listBytes, valueBytes, tokenBytes, inputBytes, outputBytes, inputWitnessBytes, outputWitnessBytes, flagOf, InputAllowed, OutputAllowed}
+use Rattle.layout.specs.Contents.{Value, null, explicit, commitment, Token, Issuance, Input, Output, InputWitness, OutputWitness, Witnesses, Contents, compactBytes, flat, bodyBytes, listBytes, valueBytes, tokenBytes, inputBytes, outputBytes, inputWitnessBytes, outputWitnessBytes, flagOf}
+use Rattle.layout.specs.Fields.{InputFormed, OutputFormed}
 use Rattle.layout.specs.Records.{valuePrefix, tokenPrefix}
 use Rattle.layout.proofs.Codes.{logAll}
-use Rattle.layout.proofs.Parts.{bodyLog, amountNote, amountHalves, keysNote, keysHalves, valueLog, issuedLog, scriptNote, inputLog, outNote, outputLog, itemNote, itemLog, itemsLog, inNote, peginNote, inputWitnessLog, outputWitnessLog}
+use Rattle.layout.proofs.Parts.{Body, bodyLog, amountNote, amountHalves, keysNote, keysHalves, valueLog, issuedLog, scriptNote, inputLog, outNote, outputLog, itemNote, itemLog, itemsLog, inNote, peginNote, inputWitnessLog, outputWitnessLog}
 use Rattle.layout.proofs.Whole.{inputWitnessesLog, outputWitnessesLog, tailLog, wholeLog}
 
 pub record Timed : Type 0 where
@@ -195,7 +195,7 @@ unfolding entered
 item-log j at x = refl
 
 items-log : (j at : ℕ) (xs : List (List ℕ)) → entered always (itemsTimed j at xs) ≡ itemsLog j at xs
-items-log = all-log itemAt Bytes bodyBytes itemTimed itemLog item-log
+items-log = all-log itemAt Body bodyBytes itemTimed itemLog item-log
 
 witness-log : (i first at : ℕ) (x : InputWitness) → entered always (inputWitnessTimed i first at x) ≡ inputWitnessLog i first at x
 unfolding entered
@@ -237,6 +237,6 @@ whole-log room at x =
     let at₂ = at + 5 + length (listBytes inputBytes (x .inputs)) + length (compactBytes (length (x .outputs))) in
     let at₃ = at + 5 + length (listBytes inputBytes (x .inputs)) + length (listBytes outputBytes (x .outputs)) + 4 in
     entered-both always (inputsTimed 0 at₁ (x .inputs)) (outputsTimed 0 at₂ (x .outputs) ++ tailTimed at₃ (x .witnesses))
-    ∙ ap₂ (λ (es fs : List Entry). es ++ fs) (all-log inputAt InputAllowed inputBytes inputTimed inputLog input-log 0 at₁ (x .inputs))
+    ∙ ap₂ (λ (es fs : List Entry). es ++ fs) (all-log inputAt InputFormed inputBytes inputTimed inputLog input-log 0 at₁ (x .inputs))
     (entered-both always (outputsTimed 0 at₂ (x .outputs)) (tailTimed at₃ (x .witnesses))
-    ∙ ap₂ (λ (es fs : List Entry). es ++ fs) (all-log outputAt OutputAllowed outputBytes outputTimed outputLog output-log 0 at₂ (x .outputs)) (tail-log room (length (x .inputs)) (length (x .outputs)) (flagOf (x .witnesses)) at₃ (x .witnesses)))
+    ∙ ap₂ (λ (es fs : List Entry). es ++ fs) (all-log outputAt OutputFormed outputBytes outputTimed outputLog output-log 0 at₂ (x .outputs)) (tail-log room (length (x .inputs)) (length (x .outputs)) (flagOf (x .witnesses)) at₃ (x .witnesses)))

@@ -2,7 +2,7 @@
 -- at most k.
 use Prim.Native.Nat.{ℕ, zero, suc, _+_, _/_, _%_, _^_, _<_, _≤_}
 use mathlib.Core.Path.{_≡_, refl, sym, _∙_, ap, ap₂, subst}
-use mathlib.Core.Bool.{Bool, cond}
+use mathlib.Core.Bool.{Bool, false, cond}
 use mathlib.Core.List.{List, [], _∷_, _++_, append-assoc, append-nil}
 use mathlib.Core.Option.{Option, none, some}
 use native.Mathlib.Nat.{add-zero, zero-add}
@@ -15,14 +15,15 @@ use Rattle.layout.specs.Transaction.{Head, Room, limit, entry, transacti
 use Rattle.layout.specs.Outcome
 use Rattle.layout.specs.Outcome.{Tables, Sizes, roomOf, zeros, laid, readingOf, partial}
 use Rattle.layout.specs.Contents.{Value, null, explicit, commitment, Token, absent, present, Issuance, Input, Output, InputWitness, OutputWitness, Witnesses, Contents, compactBytes, flat, bodyBytes, listBytes, valueBytes, tokenBytes, issuanceBytes, rawVout, inputBytes, outputBytes, inputWitnessBytes, outputWitnessBytes, flagOf, witnessesBytes, contentsBytes, Every, IssuanceAllowed, Flagged, InputAllowed}
-use Rattle.layout.specs.Fields.{Formed}
-use Rattle.layout.specs.Records.{valuePrefix}
+use Rattle.layout.specs.Fields.{InputFormed, Formed}
+use Rattle.layout.specs.Beginnings.{allEmpty}
+use Rattle.layout.specs.Records.{valuePrefix, headOf}
 use Rattle.layout.proofs.Number.{length-bytes}
 use Rattle.layout.proofs.Reading.{refused-not-more, refused-not-finished, stable}
-use Rattle.layout.proofs.Trace.{Event, shown, hidden, enters, looked, passed, entering, entries, upTo, log-by}
+use Rattle.layout.proofs.Trace.{Event, shown, hidden, enters, looked, passed, entering, entries, trace, looks-taken, upTo, log-by, goes-before}
 use Rattle.layout.proofs.Codes.{eventsAll}
 use Rattle.layout.proofs.Parts.{bodyEvents, valueEvents, tokenEvents, amountNote, amountHalves, keysNote, keysHalves, issuanceEvents, issuedEvents, scriptNote, inputEvents, outNote, outputEvents, itemNote, itemEvents, stackEvents, inNote, peginNote, inputWitnessEvents, outputWitnessEvents}
-use Rattle.layout.proofs.Whole.{inputWitnessesEvents, tailEvents, wholeEvents, reads, traced}
+use Rattle.layout.proofs.Whole.{inputWitnessesEvents, tailEvents, wholeEvents, reads, goes, traced}
 use Rattle.layout.proofs.Timed.{Timed, timed, entered, by, bodyTimed, amountTimed, valueTimed, tokenTimed, issuanceTimed, issuedTimed, inputTimed, outputTimed, allTimed, itemTimed, stackTimed, inputWitnessTimed, outputWitnessTimed, inputWitnessesTimed, tailTimed, wholeTimed}
 
 -- each entry with the bytes that came before it, from a position on
@@ -255,7 +256,7 @@ module _ (room : Room) (x : Contents) (g : Formed room x) where
       let e₅ : at + 5 + length ins + length outs + 4 ≡ a₄ + length locktime = omega arith in
       told-both at _ _ _ _ _ _ (told-looked at version)
       (told-both a₁ (shown (flagOf (x .witnesses)) ∷ []) _ (flagOf (x .witnesses) ∷ []) _ [] _ (told-looked a₁ (flagOf (x .witnesses) ∷ []))
-      (told-both a₂ _ _ _ _ _ _ (told-at (at + 5) a₂ _ _ _ e₂ (told-list InputAllowed inputBytes inputEvents inputTimed told-input 0 (at + 5) (x .inputs) (g .inputs)))
+      (told-both a₂ _ _ _ _ _ _ (told-at (at + 5) a₂ _ _ _ e₂ (told-list InputFormed inputBytes inputEvents inputTimed (λ i at y f. told-input i at y (f .allowed)) 0 (at + 5) (x .inputs) (g .inputs)))
       (told-both a₃ _ _ _ _ _ _ (told-at (at + 5 + length ins) a₃ _ _ _ e₃ (told-list (λ x. Unit {0}) outputBytes outputEvents outputTimed (λ i at x g. told-output i at x) 0 (at + 5 + length ins) (x .outputs) (any (x .outputs))))
       (told-both a₄ _ _ _ _ _ _ (told-looked a₄ locktime)
       (told-at (at + 5 + length ins + length outs + 4) (a₄ + length locktime) _ _ _ e₅ (told-tail (room .items) (length (x .inputs)) (length (x .outputs)) (flagOf (x .witnesses)) (at + 5 + length ins + length outs + 4) (x .witnesses)))))))
@@ -265,27 +266,39 @@ module _ (room : Room) (x : Contents) (g : Formed room x) where
   whole-timing = ap (timing 0) (sym (append-nil (wholeEvents room 0 x))) ∙ told-whole 0 [] ∙ append-nil (wholeTimed 0 x)
 
   -- the reading of the first k bytes makes the entries of time at most k, whatever stands behind the transaction
-  pub log-timed : length (contentsBytes x) ≤ limit → (ys : List ℕ) (k : ℕ) → run (transaction room) (take k (contentsBytes x ++ ys)) .log ≡ entered (by k) (wholeTimed 0 x)
-  log-timed h ys k =
+  timed-by : (ys : List ℕ) (k : ℕ) → upTo k (trace (transaction room) (contentsBytes x ++ ys)) ≡ upTo k (wholeEvents room 0 x) → run (transaction room) (take k (contentsBytes x ++ ys)) .log ≡ entered (by k) (wholeTimed 0 x)
+  timed-by ys k e =
       log-by (transaction room) k (contentsBytes x ++ ys)
-      ∙ ap (λ (es : List Event). entries (upTo k es)) (traced room x g h ys)
+      ∙ ap entries e
       ∙ in-time k 0 (wholeEvents room 0 x)
       ∙ ap₂ (λ (n : ℕ) (ts : List Timed). entered (by n) ts) (zero-add k) whole-timing
 
+  pub log-timed : length (contentsBytes x) ≤ limit → (ys : List ℕ) (k : ℕ) → run (transaction room) (take k (contentsBytes x ++ ys)) .log ≡ entered (by k) (wholeTimed 0 x)
+  log-timed h ys k = timed-by ys k (ap (upTo k) (traced room x g h ys))
+
+  -- of whatever length, before a byte that is taken
+  log-before : (ys : List ℕ) (k : ℕ) → k < run (transaction room) (contentsBytes x ++ ys) .taken → run (transaction room) (take k (contentsBytes x ++ ys)) .log ≡ entered (by k) (wholeTimed 0 x)
+  log-before ys k h = timed-by ys k (goes-before k _ (wholeEvents room 0 x) (omega (arith, looks-taken (transaction room) (contentsBytes x ++ ys))) (goes room x g ys))
+
   -- no reading of the first k bytes is refused, since that of all of them finishes
-  unrefused : length (contentsBytes x) ≤ limit → (ys : List ℕ) (k n p : ℕ) → run (transaction room) (take k (contentsBytes x ++ ys)) .answer ≡ refused n p → ⊥
-  unrefused h ys k n p e =
+  unrefused : length (contentsBytes x) ≤ limit → allEmpty (x .witnesses) ≡ false → (ys : List ℕ) (k n p : ℕ) → run (transaction room) (take k (contentsBytes x ++ ys)) .answer ≡ refused n p → ⊥
+  unrefused h filled ys k n p e =
       let xs = contentsBytes x ++ ys in
       let same = ap (run (transaction room)) (sym (take-append-drop k xs)) ∙ stable (transaction room) (take k xs) (drop k xs) (λ q. refused-not-more (sym e ∙ q)) in
-      refused-not-finished (sym e ∙ sym (ap (λ (r : Reading Head). r .answer) same) ∙ ap (λ (r : Reading Head). r .answer) (reads room x g h ys))
+      refused-not-finished (sym e ∙ sym (ap (λ (r : Reading Head). r .answer) same) ∙ ap (λ (r : Reading Head). r .answer) (reads room x g h ys) ∙ ap (λ (t : Bool). cond t (refused 8 4) (finished (headOf x))) filled)
 
 unrefused-shown : (a : Answer Head) (t z : Tables) → ((n p : ℕ) → a ≡ refused n p → ⊥) → Outcome.shown a t z ≡ t
 unrefused-shown (finished h) t z never = refl
 unrefused-shown more t z never = refl
 unrefused-shown (refused n p) t z never = absurd (never n p refl)
 
--- so the tables of the first k bytes hold those entries, and 0 otherwise
-pub tables-timed : (z : Sizes) (x : Contents) → Formed (roomOf z) x → length (contentsBytes x) ≤ limit → (ys : List ℕ) (k : ℕ) → partial z (take k (contentsBytes x ++ ys)) .tables ≡ laid (entered (by k) (wholeTimed 0 x)) (zeros z)
-tables-timed z x g h ys k =
+-- so the tables of the first k bytes hold those entries, and 0 otherwise; of whatever length, while more is wanted
+pub tables-before : (z : Sizes) (x : Contents) → Formed (roomOf z) x → (ys : List ℕ) (k : ℕ) → k < readingOf z (contentsBytes x ++ ys) .taken → partial z (take k (contentsBytes x ++ ys)) .answer ≡ more → partial z (take k (contentsBytes x ++ ys)) .tables ≡ laid (entered (by k) (wholeTimed 0 x)) (zeros z)
+tables-before z x g ys k h wants =
     let r = readingOf z (take k (contentsBytes x ++ ys)) in
-    unrefused-shown (r .answer) (laid (r .log) (zeros z)) (zeros z) (unrefused (roomOf z) x g h ys k) ∙ ap (λ (l : List Entry). laid l (zeros z)) (log-timed (roomOf z) x g h ys k)
+    ap (λ (a : Answer Head). Outcome.shown a (laid (r .log) (zeros z)) (zeros z)) wants ∙ ap (λ (l : List Entry). laid l (zeros z)) (log-before (roomOf z) x g ys k h)
+
+pub tables-timed : (z : Sizes) (x : Contents) → Formed (roomOf z) x → length (contentsBytes x) ≤ limit → allEmpty (x .witnesses) ≡ false → (ys : List ℕ) (k : ℕ) → partial z (take k (contentsBytes x ++ ys)) .tables ≡ laid (entered (by k) (wholeTimed 0 x)) (zeros z)
+tables-timed z x g h filled ys k =
+    let r = readingOf z (take k (contentsBytes x ++ ys)) in
+    unrefused-shown (r .answer) (laid (r .log) (zeros z)) (zeros z) (unrefused (roomOf z) x g h filled ys k) ∙ ap (λ (l : List Entry). laid l (zeros z)) (log-timed (roomOf z) x g h ys k)

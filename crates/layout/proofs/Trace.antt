@@ -3,11 +3,12 @@
 --     looks-at      a byte is passed exactly if the layout hides it, and is looked at with its value otherwise
 --     trace-cut     the trace of the first k bytes is what comes before the byte behind them
 --     log-by        so the reading of the first k bytes makes the entries that come before it
---     agree         two inputs with one trace agree at the bearing bytes
+--     Goes          a trace goes along some events and on behind them, or stops among them
+--     agree-first   two inputs that are met as the first of the same events agree at each bearing byte that both take
 use Prim.Native.Nat.{ℕ, zero, suc, _+_, _-_, _<_, _≤_, min}
 use mathlib.Core.Path.{_≡_, refl, sym, _∙_, ap, ap₂, subst}
 use mathlib.Core.Bool.{Bool, true, false, cond, not, _&&_}
-use mathlib.Core.List.{List, [], _∷_, _++_, map, append-nil}
+use mathlib.Core.List.{List, [], _∷_, _++_, map, append-assoc, append-nil}
 use mathlib.Core.Option.{Option, none, some}
 use native.Mathlib.Omega.{arith}
 use lib.Dec.{leb, ltb}
@@ -279,15 +280,6 @@ same-look true d u v e s = absurd (let z : _≡_ {A = ℕ} 1 0 = ap (λ (b : Boo
 same-look false true u v e s = absurd (let z : _≡_ {A = ℕ} 0 1 = cc in omega arith)
 same-look false false u v e s = cc
 
-module _ {A : Type 0} where
-  pub agree : (l : Layout A) (xs ys : List ℕ) → trace l xs ≡ trace l ys → (i : ℕ) → bears l xs i ≡ true → getD xs i 0 ≡ getD ys i 0
-  agree l xs ys e i b =
-      let p = both (ltb i (run l xs .taken)) (not (hides l xs i)) b in
-      let less = ltb-true i (run l xs .taken) (p .0) in
-      let long = sym (looks-taken l xs) ∙ ap (λ (t : List Event). length (looks t)) e ∙ looks-taken l ys in
-      same-look (hides l xs i) (hides l ys i) (getD xs i 0) (getD ys i 0) (not-hidden (hides l xs i) (p .1))
-      (sym (looks-at l xs i less) ∙ ap (λ (t : List Event). getD (looks t) i none) e ∙ looks-at l ys i (omega arith))
-
 -- ---- and with the same bytes behind them
 
 looks-upto : (n : ℕ) (t : List Event) → looks (upTo n t) ≡ take n (looks t)
@@ -333,3 +325,85 @@ module _ {A : Type 0} where
       let at : length xs + (i - length xs) ≡ i = omega arith in
       ap (λ (n : ℕ). getD (xs ++ vs) n 0) (sym at) ∙ getD-append-add xs vs (i - length xs) 0
       ∙ sym (getD-append-add ys vs (i - length xs) 0) ∙ ap (λ (n : ℕ). getD (ys ++ vs) n 0) (omega arith))
+
+-- ---- a trace along some events
+
+-- It goes on behind them; or it stops among them, where a field would end past the limit.
+pub data Goes (past : Type 0) (t es u : List Event) : Type 0 where
+  on : t ≡ es ++ u → Goes past t es u
+  stops : past → (left : List Event) → es ≡ t ++ left → Goes past t es u
+
+pub goes-as : {past : Type 0} {t t′ es es′ u u′ : List Event} → t′ ≡ t → es′ ≡ es → u ≡ u′ → Goes past t es u → Goes past t′ es′ u′
+goes-as e f g (on h) = on (e ∙ h ∙ ap₂ (λ (a b : List Event). a ++ b) (sym f) g)
+goes-as e f g (stops p left h) = stops p left (f ∙ h ∙ ap (λ (a : List Event). a ++ left) (sym e))
+
+pub goes-past : {past past′ : Type 0} {t es u : List Event} → (past → past′) → Goes past t es u → Goes past′ t es u
+goes-past f (on h) = on h
+goes-past f (stops p left h) = stops (f p) left h
+
+-- along some events, and then along others
+pub goes-both : {past past′ ever : Type 0} (t es u fs v : List Event) → (past → ever) → (past′ → ever) → Goes past t es u → Goes past′ u fs v → Goes ever t (es ++ fs) v
+goes-both t es u fs v f g (on e) (on h) = on (e ∙ ap (λ (a : List Event). es ++ a) h ∙ sym (append-assoc es fs v))
+goes-both t es u fs v f g (on e) (stops p left h) = stops (g p) left (ap (λ (a : List Event). es ++ a) h ∙ sym (append-assoc es u left) ∙ ap (λ (a : List Event). a ++ left) (sym e))
+goes-both t es u fs v f g (stops p left e) next = stops (f p) (left ++ fs) (ap (λ (a : List Event). a ++ fs) e ∙ append-assoc t left fs)
+
+-- where it can't stop, it is they
+pub goes-whole : {past : Type 0} (t es : List Event) → (past → ⊥) → Goes past t es [] → t ≡ es
+goes-whole t es never (on e) = e ∙ append-nil es
+goes-whole t es never (stops p left e) = absurd (never p)
+
+-- what it does before a byte that it meets is what the events have before that byte
+before : (k : ℕ) (t left : List Event) → k < length (looks t) → upTo k (t ++ left) ≡ upTo k t
+unfolding upTo
+before k [] left h = absurd (omega arith)
+before k (enters e ∷ t) left h = ap (λ (a : List Event). enters e ∷ a) (before k t left h)
+before zero (shown b ∷ t) left h = refl
+before (suc k) (shown b ∷ t) left h = ap (λ (a : List Event). shown b ∷ a) (before k t left (omega arith))
+before zero (hidden ∷ t) left h = refl
+before (suc k) (hidden ∷ t) left h = ap (λ (a : List Event). hidden ∷ a) (before k t left (omega arith))
+
+pub goes-before : {past : Type 0} (k : ℕ) (t es : List Event) → k < length (looks t) → Goes past t es [] → upTo k t ≡ upTo k es
+goes-before k t es h (on e) = ap (upTo k) (e ∙ append-nil es)
+goes-before k t es h (stops p left e) = sym (before k t left h) ∙ ap (upTo k) (sym e)
+
+-- the events before a byte come first
+upto-first : (k : ℕ) (t : List Event) → (left : List Event) × (t ≡ upTo k t ++ left)
+unfolding upTo
+upto-first k [] = ([], refl)
+upto-first k (enters e ∷ t) = let p = upto-first k t in (p .0, ap (λ (a : List Event). enters e ∷ a) (p .1))
+upto-first zero (shown b ∷ t) = (shown b ∷ t, refl)
+upto-first (suc k) (shown b ∷ t) = let p = upto-first k t in (p .0, ap (λ (a : List Event). shown b ∷ a) (p .1))
+upto-first zero (hidden ∷ t) = (hidden ∷ t, refl)
+upto-first (suc k) (hidden ∷ t) = let p = upto-first k t in (p .0, ap (λ (a : List Event). hidden ∷ a) (p .1))
+
+-- the first of some events
+abbrev pub First : List Event → List Event → Type 0
+First t es = (left : List Event) × (es ≡ t ++ left)
+
+pub goes-first : {past : Type 0} (k : ℕ) (t es : List Event) → Goes past t es [] → First (upTo k t) es
+goes-first k t es (on e) = let p = upto-first k t in (p .0, sym (append-nil es) ∙ sym e ∙ p .1)
+goes-first k t es (stops past left e) = let p = upto-first k t in (p .0 ++ left, e ∙ ap (λ (a : List Event). a ++ left) (p .1) ∙ append-assoc (upTo k t) (p .0) left)
+
+pub looks-both : (t u : List Event) → looks (t ++ u) ≡ looks t ++ looks u
+looks-both [] u = refl
+looks-both (shown b ∷ t) u = ap (λ (l : List (Option ℕ)). some b ∷ l) (looks-both t u)
+looks-both (hidden ∷ t) u = ap (λ (l : List (Option ℕ)). none ∷ l) (looks-both t u)
+looks-both (enters e ∷ t) u = looks-both t u
+
+pub looks-first : (t es : List Event) (i : ℕ) → i < length (looks t) → First t es → getD (looks t) i none ≡ getD (looks es) i none
+looks-first t es i h p = sym (ap (λ (l : List (Option ℕ)). getD l i none) (ap looks (p .1) ∙ looks-both t (p .0)) ∙ List·getD-append (looks t) (looks (p .0)) none i h)
+
+module _ {A : Type 0} where
+  pub bears-taken : (l : Layout A) (xs : List ℕ) (i : ℕ) → bears l xs i ≡ true → i < run l xs .taken
+  bears-taken l xs i b = ltb-true i (run l xs .taken) (both (ltb i (run l xs .taken)) (not (hides l xs i)) b .0)
+
+-- two inputs that are met as the first of the same events agree at each bearing byte that both take
+module _ {A : Type 0} where
+  pub agree-first : (l : Layout A) (xs ys : List ℕ) (es : List Event) → First (trace l xs) es → First (trace l ys) es → (i : ℕ) → bears l xs i ≡ true → i < run l ys .taken → getD xs i 0 ≡ getD ys i 0
+  agree-first l xs ys es f g i b there =
+      let less = bears-taken l xs i b in
+      same-look (hides l xs i) (hides l ys i) (getD xs i 0) (getD ys i 0) (not-hidden (hides l xs i) (both (ltb i (run l xs .taken)) (not (hides l xs i)) b .1))
+      (sym (looks-at l xs i less)
+      ∙ looks-first (trace l xs) es i (omega (arith, looks-taken l xs)) f
+      ∙ sym (looks-first (trace l ys) es i (omega (arith, looks-taken l ys)) g)
+      ∙ looks-at l ys i there)

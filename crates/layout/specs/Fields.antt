@@ -1,23 +1,63 @@
 -- A transaction's fields in wire order, and refusal 2 by them. 01: "Number 2 is given with the last byte before the field (for a body, its length's last); a count's
 -- first byte is a field, then its further bytes (both placed at the count's start)", and "the first fault wins".
 use Prim.Native.Nat.{ℕ, _+_, _^_, _<_}
-use mathlib.Core.Bool.{Bool, cond}
+use mathlib.Core.Path.{_≡_}
+use mathlib.Core.Bool.{cond}
 use mathlib.Core.List.{List, [], _∷_, _++_}
 use mathlib.Core.Option.{Option, none, some}
 use lib.Dec.{leb}
 use lib.ListN.{length}
 use Rattle.layout.specs.Layout.{Answer, refused}
 use Rattle.layout.specs.Transaction.{Head, Room, limit}
-use Rattle.layout.specs.Contents.{Value, null, explicit, commitment, Token, absent, present, Issuance, Input, Output, InputWitness, OutputWitness, Witnesses, Contents, compactBytes, flat, bodyBytes, listBytes, valueBytes, tokenBytes, inputBytes, outputBytes, inputWitnessBytes, outputWitnessBytes, Every, InputAllowed, OutputAllowed, MaybeAllowed}
+use Rattle.layout.specs.Contents.{Value, null, explicit, commitment, Token, absent, present, Issuance, Input, Output, InputWitness, OutputWitness, Witnesses, Contents, compactBytes, flat, bodyBytes, listBytes, valueBytes, tokenBytes, inputBytes, outputBytes, inputWitnessBytes, outputWitnessBytes, Every, InputAllowed, OutputAllowed, InputWitnessAllowed, OutputWitnessAllowed}
 use Rattle.layout.specs.Records.{Fits}
 
--- Allowed but for the size limit, and the tables have room for it.
+-- A count or length is told by at most 8 bytes.
+abbrev pub Short : {X : Type 0} → List X → Type 0
+Short xs = length xs < 2 ^ 64
+
+pub record InputFormed (x : Input) : Type 0 where
+  pub allowed : InputAllowed x
+  pub script : Short (x .script)
+
+pub record OutputFormed (x : Output) : Type 0 where
+  pub allowed : OutputAllowed x
+  pub script : Short (x .script)
+
+pub record InputWitnessFormed (x : InputWitness) : Type 0 where
+  pub allowed : InputWitnessAllowed x
+  pub amountProof : Short (x .amountProof)
+  pub keysProof : Short (x .keysProof)
+  pub scriptCount : Short (x .scriptItems)
+  pub scriptItems : Every Short (x .scriptItems)
+  pub peginCount : Short (x .peginItems)
+  pub peginItems : Every Short (x .peginItems)
+
+pub record OutputWitnessFormed (x : OutputWitness) : Type 0 where
+  pub allowed : OutputWitnessAllowed x
+  pub surjectionProof : Short (x .surjectionProof)
+  pub rangeProof : Short (x .rangeProof)
+
+-- A witness for each input and each output.
+pub record WitnessesFormed (ins outs : ℕ) (x : Witnesses) : Type 0 where
+  pub inputCount : length (x .inputs) ≡ ins
+  pub outputCount : length (x .outputs) ≡ outs
+  pub inputs : Every InputWitnessFormed (x .inputs)
+  pub outputs : Every OutputWitnessFormed (x .outputs)
+
+abbrev pub MaybeFormed : ℕ → ℕ → Option Witnesses → Type 0
+MaybeFormed ins outs none = Unit {0}
+MaybeFormed ins outs (some x) = WitnessesFormed ins outs x
+
+-- Allowed but for the size limit, and but for witnesses that are all empty; and the tables have room for it.
 pub record Formed (room : Room) (x : Contents) : Type 0 where
   pub version : x .version < 2 ^ 32
-  pub inputs : Every InputAllowed (x .inputs)
-  pub outputs : Every OutputAllowed (x .outputs)
+  pub inputCount : Short (x .inputs)
+  pub inputs : Every InputFormed (x .inputs)
+  pub outputCount : Short (x .outputs)
+  pub outputs : Every OutputFormed (x .outputs)
   pub locktime : x .locktime < 2 ^ 32
-  pub witnesses : MaybeAllowed (length (x .inputs)) (length (x .outputs)) (x .witnesses)
+  pub witnesses : MaybeFormed (length (x .inputs)) (length (x .outputs)) (x .witnesses)
   pub fits : Fits room x
 
 -- Where a refusal of it is placed, where its bytes start, and where they end.

@@ -9,7 +9,8 @@
 --     Fields        where each field starts and ends, and refusal 2 by them
 --     Sites         where counts, lengths, prefixes and issuances start
 --     Moments       when each number enters, and the tables so far
---     Outline       what it holds, with each part that doesn't bear replaced by its length
+--     Beginnings    what the caller sees of any bytes: the first of a transaction, or those and a fault
+--     Outline       what it holds, with each part that doesn't bear replaced by its length, or blotted out
 --     Writing       from head numbers, tables and source to bytes, or a refusal; the fee question
 --     Shows         which transaction head numbers and tables over a source show
 --     Unwritten     what they show where writing refuses
@@ -23,6 +24,7 @@ pub mod Refusals
 pub mod Fields
 pub mod Sites
 pub mod Moments
+pub mod Beginnings
 pub mod Outline
 pub mod Writing
 pub mod Shows

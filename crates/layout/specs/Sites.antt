@@ -1,16 +1,16 @@
 -- Where a transaction's counts, lengths, prefixes and issuances start: the sites of refusals 3 to 6, and of 2 for further bytes and bodies.
-use Prim.Native.Nat.{ℕ, _+_, _-_, _^_, _<_, _≤_}
+use Prim.Native.Nat.{ℕ, _+_, _-_, _^_, _<_}
 use mathlib.Core.Path.{_≡_}
-use mathlib.Core.Bool.{Bool, false}
+use mathlib.Core.Bool.{Bool, true, false}
 use mathlib.Core.List.{List, [], _∷_, _++_}
 use mathlib.Core.Option.{Option, none, some}
 use lib.ListN.{length}
 use Rattle.layout.specs.Number.{little, bytesOf}
 use Rattle.layout.specs.Layout.{Answer, refused}
-use Rattle.layout.specs.Transaction.{Head, Room, limit, announced, least}
+use Rattle.layout.specs.Transaction.{Head, Room, announced, least}
 use Rattle.layout.specs.Outcome.{Sizes, partial}
 use Rattle.layout.specs.Refusals.{listedValue, listedAsset, listedNonce}
-use Rattle.layout.specs.Contents.{Value, Token, Issuance, Input, Output, InputWitness, OutputWitness, Witnesses, Contents, compactBytes, flat, bodyBytes, listBytes, valueBytes, tokenBytes, inputBytes, outputBytes, inputWitnessBytes, outputWitnessBytes, Fixed}
+use Rattle.layout.specs.Contents.{Issuance, Input, Output, InputWitness, OutputWitness, Witnesses, Contents, compactBytes, flat, bodyBytes, listBytes, valueBytes, tokenBytes, inputBytes, outputBytes, inputWitnessBytes, outputWitnessBytes, Fixed}
 
 -- A count, and the records left in its table; a length; a value, an asset and a nonce; an issuance.
 pub data What : Type 0 where
@@ -82,23 +82,69 @@ sitesOf room at x =
     let at₃ = at₂ + length (listBytes outputBytes (x .outputs)) in
     listSites (room .inputs) inputBytes inputSites at₁ (x .inputs) ++ (listSites (room .outputs) outputBytes outputSites at₂ (x .outputs) ++ witnessesSites (room .items) (at₃ + 4) (x .witnesses))
 
+-- ---- a fault's bytes at a site, and its number
+
+-- 3: count or length not in shortest form
+pub record NotShortest (bytes : List ℕ) : Type 0 where
+  pub first : ℕ
+  pub n : ℕ
+  pub byte : first < 256
+  pub above : 252 < first
+  pub less : n < least (announced first)
+  pub same : bytes ≡ first ∷ bytesOf little (announced first) n
+
+-- 4: count exceeds the records left in its table
+pub record TooMany (left : ℕ) (bytes : List ℕ) : Type 0 where
+  pub n : ℕ
+  pub small : n < 2 ^ 64
+  pub over : left < n
+  pub same : bytes ≡ compactBytes n
+
+-- 5: prefix not listed
+pub record NotListed (listed : ℕ → Bool) (bytes : List ℕ) : Type 0 where
+  pub prefix : ℕ
+  pub byte : prefix < 256
+  pub unlisted : listed prefix ≡ false
+  pub same : bytes ≡ prefix ∷ []
+
+-- 6: blinding nonce, entropy, two null values
+pub record NullIssuance (bytes : List ℕ) : Type 0 where
+  pub nonce : List ℕ
+  pub entropy : List ℕ
+  pub nonce-long : Fixed 32 nonce
+  pub entropy-long : Fixed 32 entropy
+  pub same : bytes ≡ nonce ++ (entropy ++ (0 ∷ 0 ∷ []))
+
+abbrev pub compact : What → Bool
+compact (counts left) = true
+compact lengths = true
+compact values = false
+compact assets = false
+compact nonces = false
+compact issuances = false
+
+abbrev pub listedAt : What → ℕ → Bool
+listedAt (counts left) p = true
+listedAt lengths p = true
+listedAt values p = listedValue p
+listedAt assets p = listedAsset p
+listedAt nonces p = listedNonce p
+listedAt issuances p = true
+
+pub data Fault (what : What) (number : ℕ) (bytes : List ℕ) : Type 0 where
+  notShortest : compact what ≡ true → number ≡ 3 → NotShortest bytes → Fault what number bytes
+  tooMany : (left : ℕ) → what ≡ counts left → number ≡ 4 → TooMany left bytes → Fault what number bytes
+  notListed : number ≡ 5 → NotListed (listedAt what) bytes → Fault what number bytes
+  nullIssuance : what ≡ issuances → number ≡ 6 → NullIssuance bytes → Fault what number bytes
+
+-- one of some sites
+pub record Among (s : Site) (ss : List Site) : Type 0 where
+  pub before : List Site
+  pub after : List Site
+  pub same : ss ≡ before ++ (s ∷ after)
+
 -- ---- what is refused at a site, behind the bytes in front of it
 
 -- Whatever follows, these bytes are refused with this number and place, and taken.
 abbrev pub Refuses : Sizes → List ℕ → List ℕ → ℕ → ℕ → Type 0
 Refuses z front bytes number place = (ys : List ℕ) → let o = partial z (front ++ (bytes ++ ys)) in _≡_ {A = Answer Head × ℕ} (o .answer, o .taken) (refused number place, length front + length bytes)
-
--- Further bytes would end past 4,000,000: 2, with the first byte. Not in shortest form: 3, with the last.
-pub record CompactFaults (z : Sizes) (front : List ℕ) (at : ℕ) : Type 0 where
-  pub two : (first : ℕ) → first < 256 → 252 < first → at + 1 ≤ limit → limit < at + 1 + announced first → Refuses z front (first ∷ []) 2 at
-  pub three : (first n : ℕ) → first < 256 → 252 < first → n < least (announced first) → n < 256 ^ announced first → at + 1 + announced first ≤ limit → Refuses z front (first ∷ bytesOf little (announced first) n) 3 at
-
--- A count above the records left: 4, with its last byte. A body that would end past 4,000,000: 2, with its length's last byte. A prefix that is not listed: 5.
--- An issuance whose values are null: 6, with the second one.
-abbrev pub Faults : Sizes → List ℕ → ℕ → What → Type 0
-Faults z front at (counts left) = CompactFaults z front at × ((n : ℕ) → n < 2 ^ 64 → left < n → at + length (compactBytes n) ≤ limit → Refuses z front (compactBytes n) 4 at)
-Faults z front at lengths = CompactFaults z front at × ((n : ℕ) → n < 2 ^ 64 → at + length (compactBytes n) ≤ limit → limit < at + length (compactBytes n) + n → Refuses z front (compactBytes n) 2 at)
-Faults z front at values = (p : ℕ) → p < 256 → listedValue p ≡ false → at + 1 ≤ limit → Refuses z front (p ∷ []) 5 at
-Faults z front at assets = (p : ℕ) → p < 256 → listedAsset p ≡ false → at + 1 ≤ limit → Refuses z front (p ∷ []) 5 at
-Faults z front at nonces = (p : ℕ) → p < 256 → listedNonce p ≡ false → at + 1 ≤ limit → Refuses z front (p ∷ []) 5 at
-Faults z front at issuances = (nonce entropy : List ℕ) → Fixed 32 nonce → Fixed 32 entropy → at + 66 ≤ limit → Refuses z front (nonce ++ (entropy ++ (0 ∷ 0 ∷ []))) 6 at

@@ -518,6 +518,8 @@ edges : AsTold (
     once (spending "00000000 ffffffffffffffffff") gives refuses 2 42 51 ∷
     once (spending "00000000 ffcdffffffffffffff") gives refuses 2 42 51 ∷
     once (spending "00000000 fed1ffffff") gives refuses 2 42 47 ∷
+    -- a script that ends at 3,999,997, so that the sequence can't fit: while its body is wanted, its position and length stand in the table all the same
+    fed (spending "00000000 fece083d00") gives wants 47 (tables (upTo 20 (6 ∷ 0 ∷ 0 ∷ 47 ∷ 3999950 ∷ [])) (replicate 14 0) (replicate 2 0)) ∷
     -- shortest form, one below and at 253, 65,536 and 2^32
     lengthAt 0 "fdfc00" gives stops 3 0 3 ∷
     lengthAt 0 "fdfd00" gives worth 253 3 ∷
