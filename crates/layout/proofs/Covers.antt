@@ -497,7 +497,7 @@ witnesses-covers : (room ins outs : ℕ) → Covers (λ x. WitnessesFormed ins o
 unfolding witnessesBytes
 witnesses-covers room ins outs =
     as-other (λ z. record { inputs = z .0; outputs = z .1 })
-    (λ z g. (record { inputCount = g .0 .0; outputCount = g .1 .0; inputs = g .0 .1 .0; outputs = g .1 .1 }, let fit = g .0 .1 .1 (omega arith) in omega arith))
+    (λ z g. (record { inputsMatch = g .0 .0; outputsMatch = g .1 .0; inputs = g .0 .1 .0; outputs = g .1 .1 }, let fit = g .0 .1 .1 (omega arith) in omega arith))
     (λ z g. refl) (λ at z g. refl)
     (then (inputWitnesses-covers room ins 0) λ _ _. all-covers outputWitness-covers outs)
 

@@ -1,6 +1,6 @@
 -- What the caller sees of every list of bytes, from what transactions hold.
---     determined     of up to 4,000,000 bytes: an outcome is seen exactly if it is told in specs/Beginnings
---     first-enough   what follows them changes nothing
+--     first-enough   what follows 4,000,000 bytes changes nothing
+--     determined     an outcome is seen exactly if specs/Beginnings tells it
 use Prim.Native.Nat.{ℕ, suc, _+_, _-_, _^_, _<_, _≤_}
 use mathlib.Core.Path.{_≡_, refl, sym, _∙_, ap, ap₂, subst}
 use mathlib.Core.Bool.{Bool, true, false, cond}
@@ -19,7 +19,7 @@ use Rattle.layout.specs.Contents.{Contents, contentsBytes, compactBytes}
 use Rattle.layout.specs.Fields.{Formed}
 use Rattle.layout.specs.Moments.{tablesBy}
 use Rattle.layout.specs.Sites.{What, Site, sitesOf, compact, Fault, notShortest, tooMany, notListed, nullIssuance, Among}
-use Rattle.layout.specs.Beginnings.{ending, endOf, Starts, faultBy, sevenOf, Plain, Known}
+use Rattle.layout.specs.Beginnings.{ending, endOf, Starts, faultBy, FaultIn, sevenOf, Plain, Known, Told}
 use Rattle.layout.specs.Beginnings as told
 use Rattle.layout.proofs.Number.{length-bytes, bytes-take}
 use Rattle.layout.proofs.Compact.{forms}
@@ -30,7 +30,7 @@ use Rattle.layout.proofs.Whole.{reached}
 use Rattle.layout.proofs.Given.{compact-wants, further-waits}
 use Rattle.layout.proofs.Limits.{ending-ends}
 use Rattle.layout.proofs.Moments.{read-exactly}
-use Rattle.layout.proofs.Sited.{compact-stands, every-among, faults-given}
+use Rattle.layout.proofs.Sited.{compact-stands, Refuses, every-among, faults-given}
 use Rattle.layout.proofs.Covers.{Covered, whole, inside, faulty, covered}
 use Rattle.layout.proofs.FlagLast.{unflagged, flag-seven}
 
@@ -136,7 +136,7 @@ module _ (z : Sizes) (x : Contents) (g : Formed (roomOf z) x) (s : Site) (w : Co
       (λ t. ap (outcome z) (seen false t) ∙ sym (fault-is (length xs) z x at number fault false true t (le-leb (at + 1) (length xs) (omega arith))))
 
   -- all bytes of a fault
-  given : (number : ℕ) (fault zs : List ℕ) → Fault (s .what) number fault → (told-so : (ys : List ℕ) → _≡_ {A = Answer Head × ℕ} (partial z (front ++ (fault ++ ys)) .answer, partial z (front ++ (fault ++ ys)) .taken) (refused number (s .at), length front + length fault)) → s .at + length fault ≤ limit → partial z (front ++ (fault ++ zs)) ≡ faultBy (length (front ++ (fault ++ zs))) z x (s .at) number fault
+  given : (number : ℕ) (fault zs : List ℕ) → Fault (s .what) number fault → Refuses z front fault number (s .at) → s .at + length fault ≤ limit → partial z (front ++ (fault ++ zs)) ≡ faultBy (length (front ++ (fault ++ zs))) z x (s .at) number fault
   given number fault zs f told-so within =
       let at = s .at in
       let xs = front ++ (fault ++ zs) in
@@ -148,14 +148,19 @@ module _ (z : Sizes) (x : Contents) (g : Formed (roomOf z) x) (s : Site) (w : Co
       (λ j. record { answer = answer j; taken = taken j; tables = cleared j }) ∙ sym (fault-is (length xs) z x at number fault true true (le-leb (at + length fault) limit within) there)
 
 -- all of it: the first bytes of a transaction, up to one of its sites, and there a fault or the first bytes of one
-fault-exactly : (z : Sizes) (xs : List ℕ) → Bytes xs → length xs ≤ limit → (x : Contents) (s : Site) → Starts z (take (s .at) xs) x → Among s (sitesOf (roomOf z) 0 x) → s .at < length xs → (number : ℕ) (fault rest behind : List ℕ) → Fault (s .what) number fault → drop (s .at) xs ++ rest ≡ fault ++ behind → (number ≡ 6 → rest ≡ []) → partial z xs ≡ faultBy (length xs) z x (s .at) number fault
-fault-exactly z xs bytes short x s b among near number fault rest behind wrong same ended =
+fault-exactly : (z : Sizes) (xs : List ℕ) → Bytes xs → length xs ≤ limit → (x : Contents) (f : FaultIn z xs x) → partial z xs ≡ faultBy (length xs) z x (f .there .at) (f .number) (f .fault)
+fault-exactly z xs bytes short x f =
+    let s = f .there in
+    let near = f .near in
+    let b = f .first in
     let g = b .formed in
+    let number = f .number in
+    let fault = f .fault in
     let front = take (s .at) xs in
     let ys = drop (s .at) xs in
     let long-front = length-take-le (s .at) xs (omega arith) in
     let long-ys : length ys ≡ length xs - s .at = length-drop (s .at) xs in
-    let w = every-among (Comes (transaction (roomOf z)) (contentsBytes x) 0) s (sitesOf (roomOf z) 0 x) (reached (roomOf z) x g) among in
+    let w = every-among (Comes (transaction (roomOf z)) (contentsBytes x) 0) s (sitesOf (roomOf z) 0 x) (reached (roomOf z) x g) (f .among) in
     let front-x : take (s .at) (contentsBytes x) ≡ front = sym (take-append-le (s .at) (contentsBytes x) (b .behind) (omega (arith, w .upto))) ∙ ap (take (s .at)) (sym (b .same)) ∙ take-at front (b .rest) (s .at) long-front in
     let front-bytes = bytes-take (s .at) xs bytes in
     let room : s .at + 1 ≤ limit = omega arith in
@@ -164,64 +169,64 @@ fault-exactly z xs bytes short x s b among near number fault rest behind wrong s
     by-cases (leb (length fault) (length ys))
     (λ t.
     let there = leb-true (length fault) (length ys) t in
-    let all = split fault behind ys rest there same in
+    let all = split fault (f .behind) ys (f .rest) there (f .same) in
     let zs = drop (length fault) ys in
     let whole-ys : fault ++ zs ≡ ys = ap (λ (l : List ℕ). l ++ zs) (sym (all .0)) ∙ take-append-drop (length fault) ys in
     let within : s .at + length fault ≤ limit = omega arith in
     seen (subst (λ (l : List ℕ). partial z (front ++ l) ≡ faultBy (length (front ++ l)) z x (s .at) number fault) whole-ys
-    (given z x g s w front front-x front-bytes room number fault zs wrong
-    (subst (λ (l : List ℕ). (vs : List ℕ) → _≡_ {A = Answer Head × ℕ} (partial z (l ++ (fault ++ vs)) .answer, partial z (l ++ (fault ++ vs)) .taken) (refused number (s .at), length l + length fault)) front-x (faults-given z x g s among number fault wrong within)) within)))
+    (given z x g s w front front-x front-bytes room number fault zs (f .wrong)
+    (subst (λ (l : List ℕ). Refuses z l fault number (s .at)) front-x (faults-given z x g s (f .among) number fault (f .wrong) within)) within)))
     (λ t.
     let fewer = leb-false (length fault) (length ys) t in
-    let six : number ≡ 6 → ⊥ = λ e. omega (arith, ap (λ (l : List ℕ). length l) same, length-append ys rest, length-append fault behind, ap (λ (l : List ℕ). length l) (ended e)) in
-    let part = in-part (s .what) number fault (omega arith) six wrong in
-    seen (waits z x g s w front front-x front-bytes room number fault ys rest behind (part .0) (part .1) (omega arith) fewer same))
+    let six : number ≡ 6 → ⊥ = λ e. omega (arith, ap (λ (l : List ℕ). length l) (f .same), length-append ys (f .rest), length-append fault (f .behind), ap (λ (l : List ℕ). length l) (f .whole e)) in
+    let part = in-part (s .what) number fault (omega arith) six (f .wrong) in
+    seen (waits z x g s w front front-x front-bytes room number fault ys (f .rest) (f .behind) (part .0) (part .1) (omega arith) fewer (f .same)))
 
 -- ---- every list of bytes
 
 -- what is told of them is what is seen
 told-seen : (z : Sizes) (xs : List ℕ) (o : Outcome) → Bytes xs → length xs ≤ limit → Plain z xs o → o ≡ partial z xs
 told-seen z xs o bytes short (told.starts x b e) = e ∙ sym (read-exactly z xs x b bytes)
-told-seen z xs o bytes short (told.faulty x s b among near number fault rest behind wrong same ended e) = e ∙ sym (fault-exactly z xs bytes short x s b among near number fault rest behind wrong same ended)
+told-seen z xs o bytes short (told.faulty x f e) = e ∙ sym (fault-exactly z xs bytes short x f)
 
 -- and something is told of all
 plain-told : (z : Sizes) (xs : List ℕ) → Bytes xs → length xs ≤ limit → Covered (Formed (roomOf z)) contentsBytes (sitesOf (roomOf z)) 0 xs → Plain z xs (partial z xs)
 plain-told z xs bytes short (whole x g rest e) = let b : Starts z xs x = record { formed = g; rest = []; behind = rest; same = append-nil xs ∙ e } in told.starts x b (read-exactly z xs x b bytes)
 plain-told z xs bytes short (inside x g rest e) = let b : Starts z xs x = record { formed = g; rest = rest; behind = []; same = e ∙ sym (append-nil (contentsBytes x)) } in told.starts x b (read-exactly z xs x b bytes)
 plain-told z xs bytes short (faulty x g f) =
-    let s = f .there in
-    let front = f .front in
+    let at = f .there .at in
     let near = f .reached in
-    let at-front : s .at ≡ length front = omega (arith, f .place) in
-    let cut = split front (f .fault ++ f .behind) xs (f .rest) (omega arith) (f .same) in
-    let first-x : take (s .at) xs ≡ front = ap (λ (n : ℕ). take n xs) at-front ∙ cut .0 in
-    let b : Starts z (take (s .at) xs) x = record { formed = g; rest = f .back; behind = []; same = ap (λ (l : List ℕ). l ++ f .back) first-x ∙ sym (f .parted) ∙ sym (append-nil (contentsBytes x)) } in
-    let behind-x : drop (s .at) xs ++ f .rest ≡ f .fault ++ f .behind = ap (λ (n : ℕ). drop n xs ++ f .rest) at-front ∙ cut .1 in
-    told.faulty x s b (f .among) (omega arith) (f .number) (f .fault) (f .rest) (f .behind) (f .wrong) behind-x (f .ended)
-    (fault-exactly z xs bytes short x s b (f .among) (omega arith) (f .number) (f .fault) (f .rest) (f .behind) (f .wrong) behind-x (f .ended))
+    let at-front : at ≡ length (f .front) = omega (arith, f .place) in
+    let cut = split (f .front) (f .fault ++ f .behind) xs (f .rest) (omega arith) (f .same) in
+    let first-x : take at xs ≡ f .front = ap (λ (n : ℕ). take n xs) at-front ∙ cut .0 in
+    let b : Starts z (take at xs) x = record { formed = g; rest = f .back; behind = []; same = ap (λ (l : List ℕ). l ++ f .back) first-x ∙ sym (f .parted) ∙ sym (append-nil (contentsBytes x)) } in
+    let same : drop at xs ++ f .rest ≡ f .fault ++ f .behind = ap (λ (n : ℕ). drop n xs ++ f .rest) at-front ∙ cut .1 in
+    let i : FaultIn z xs x = record { there = f .there; first = b; among = f .among; near = omega arith; number = f .number; fault = f .fault; rest = f .rest; behind = f .behind; wrong = f .wrong; same = same; whole = f .ended } in
+    told.faulty x i (fault-exactly z xs bytes short x i)
 
 known-seen : (z : Sizes) (xs : List ℕ) (o : Outcome) → Bytes xs → length xs ≤ limit → Known z xs o → o ≡ partial z xs
 known-seen z xs o bytes short (told.plain k) = told-seen z xs o bytes short k
-known-seen z xs o bytes short (told.flagged a b c d flag ys e above p k q) =
+known-seen z xs o bytes short (told.flagAbove a b c d flag ys e above p k q) =
     let bytes′ = unflagged a b c d flag ys (subst Bytes e bytes) in
     q ∙ ap (sevenOf z) (told-seen z (a ∷ b ∷ c ∷ d ∷ 0 ∷ ys) p bytes′ (omega (arith, ap (λ (l : List ℕ). length l) e)) k) ∙ sym (flag-seven z a b c d flag ys above) ∙ ap (partial z) (sym e)
+
+-- the flag is 0 or 1, or not there yet
+unflagged-known : (z : Sizes) (xs : List ℕ) → Bytes xs → length xs ≤ limit → (5 ≤ length xs → getD xs 4 0 ≤ 1) → Known z xs (partial z xs)
+unflagged-known z xs bytes short flag = told.plain (plain-told z xs bytes short (covered (roomOf z) xs bytes flag))
 
 seen-known : (z : Sizes) (xs : List ℕ) → Bytes xs → length xs ≤ limit → Known z xs (partial z xs)
 seen-known z (a ∷ b ∷ c ∷ d ∷ flag ∷ ys) bytes short =
     by-cases (leb flag 1)
-    (λ t. told.plain (plain-told z _ bytes short (covered (roomOf z) _ bytes (λ h. leb-true flag 1 t))))
+    (λ t. unflagged-known z _ bytes short (λ h. leb-true flag 1 t))
     (λ t.
     let above = leb-false flag 1 t in
     let bytes′ = unflagged a b c d flag ys bytes in
-    told.flagged a b c d flag ys refl above (partial z (a ∷ b ∷ c ∷ d ∷ 0 ∷ ys)) (plain-told z _ bytes′ short (covered (roomOf z) _ bytes′ (λ h. omega arith))) (flag-seven z a b c d flag ys above))
-seen-known z [] bytes short = told.plain (plain-told z _ bytes short (covered (roomOf z) _ bytes (λ h. absurd (omega arith))))
-seen-known z (a ∷ []) bytes short = told.plain (plain-told z _ bytes short (covered (roomOf z) _ bytes (λ h. absurd (omega arith))))
-seen-known z (a ∷ b ∷ []) bytes short = told.plain (plain-told z _ bytes short (covered (roomOf z) _ bytes (λ h. absurd (omega arith))))
-seen-known z (a ∷ b ∷ c ∷ []) bytes short = told.plain (plain-told z _ bytes short (covered (roomOf z) _ bytes (λ h. absurd (omega arith))))
-seen-known z (a ∷ b ∷ c ∷ d ∷ []) bytes short = told.plain (plain-told z _ bytes short (covered (roomOf z) _ bytes (λ h. absurd (omega arith))))
-
-pub determined : (z : Sizes) (xs : List ℕ) (o : Outcome) → Bytes xs → length xs ≤ 4000000 → Known z xs o ↔ (o ≡ partial z xs)
-determined z xs o bytes short = (known-seen z xs o bytes short, λ e. subst (Known z xs) (sym e) (seen-known z xs bytes short))
+    told.flagAbove a b c d flag ys refl above (partial z (a ∷ b ∷ c ∷ d ∷ 0 ∷ ys)) (plain-told z _ bytes′ short (covered (roomOf z) _ bytes′ (λ h. omega arith))) (flag-seven z a b c d flag ys above))
+seen-known z [] bytes short = unflagged-known z _ bytes short (λ h. absurd (omega arith))
+seen-known z (a ∷ []) bytes short = unflagged-known z _ bytes short (λ h. absurd (omega arith))
+seen-known z (a ∷ b ∷ []) bytes short = unflagged-known z _ bytes short (λ h. absurd (omega arith))
+seen-known z (a ∷ b ∷ c ∷ []) bytes short = unflagged-known z _ bytes short (λ h. absurd (omega arith))
+seen-known z (a ∷ b ∷ c ∷ d ∷ []) bytes short = unflagged-known z _ bytes short (λ h. absurd (omega arith))
 
 -- No reading takes more: what ends by then has ended, and what would go on is refused.
 pub first-enough : (z : Sizes) (xs : List ℕ) → Bytes xs → partial z xs ≡ partial z (take 4000000 xs)
@@ -236,3 +241,12 @@ first-enough z xs bytes =
     let there : leb (readingOf z xs .taken) (length (take n xs)) ≡ true = le-leb (readingOf z xs .taken) (length (take n xs)) (omega (arith, length-take n xs, taken-there (transaction (roomOf z)) xs, few)) in
     let ended : readingOf z (take n xs) .answer ≡ readingOf z xs .answer = ap (λ (v : Answer Head × ℕ). v .0) (t ∙ ap (λ (b : Bool). cond b (readingOf z xs .answer, readingOf z xs .taken) (more, length (take n xs))) there) in
     ap (partial z) (sym back) ∙ ap (outcome z) (stable z (take n xs) (drop n xs) (λ e. never (sym ended ∙ e))))
+
+-- An outcome is seen exactly if it is told: of any bytes.
+pub determined : (z : Sizes) (xs : List ℕ) (o : Outcome) → Bytes xs → Told z xs o ↔ (o ≡ partial z xs)
+determined z xs o bytes =
+    let ys = take limit xs in
+    let few : length ys ≤ limit = omega (arith, length-take limit xs) in
+    let same : partial z xs ≡ partial z ys = first-enough z xs bytes in
+    let bytes′ = bytes-take limit xs bytes in
+    (λ k. known-seen z ys o bytes′ few k ∙ sym same, λ e. subst (Known z ys) (sym (e ∙ same)) (seen-known z ys bytes′ few))

@@ -11,7 +11,7 @@ use Rattle.layout.specs.Transaction.{Room, limit}
 use Rattle.layout.specs.Contents.{Input, Output, InputWitness, OutputWitness, Witnesses, Contents, compactBytes, flat, bodyBytes, listBytes, valueBytes, tokenBytes, issuanceBytes, rawVout, inputBytes, outputBytes, inputWitnessBytes, outputWitnessBytes, flagOf, witnessesBytes, contentsBytes, Every, InputAllowed, OutputAllowed, InputWitnessAllowed, OutputWitnessAllowed, MaybeAllowed, Allowed}
 use Rattle.layout.specs.Records.{Fits}
 use Rattle.layout.specs.Fields.{Short, InputFormed, OutputFormed, InputWitnessFormed, OutputWitnessFormed, MaybeFormed, Formed}
-use Rattle.layout.specs.Beginnings.{allEmpty}
+use Rattle.layout.specs.Beginnings.{witnessesEmpty}
 use Rattle.layout.proofs.Codes.{every-as}
 use Rattle.layout.proofs.Parts.{list-some, body-some}
 use Rattle.layout.proofs.Whole.{input-some, output-some}
@@ -83,8 +83,8 @@ witnesses-formed ins outs none g h = tt
 witnesses-formed ins outs (some x) g h =
     let e = length-append (flat inputWitnessBytes (x .inputs)) (flat outputWitnessBytes (x .outputs)) in
     record {
-      inputCount = g .inputs;
-      outputCount = g .outputs;
+      inputsMatch = g .inputs;
+      outputsMatch = g .outputs;
       inputs = each-formed InputWitnessAllowed InputWitnessFormed inputWitnessBytes inputWitness-formed (x .inputs) (g .inputsAllowed) (omega arith);
       outputs = each-formed OutputWitnessAllowed OutputWitnessFormed outputWitnessBytes outputWitness-formed (x .outputs) (g .outputsAllowed) (omega arith);
     }
@@ -117,22 +117,22 @@ formed-in room x a f =
 
 -- ---- and where not all witnesses are empty, and it is within the limit, it is allowed
 
-pub filled : (ins outs : ℕ) (o : Option Witnesses) → MaybeAllowed ins outs o → allEmpty o ≡ false
+pub filled : (ins outs : ℕ) (o : Option Witnesses) → MaybeAllowed ins outs o → witnessesEmpty o ≡ false
 filled ins outs none g = refl
 filled ins outs (some x) g = g .notEmpty
 
-witnesses-allowed : (ins outs : ℕ) (o : Option Witnesses) → MaybeFormed ins outs o → allEmpty o ≡ false → MaybeAllowed ins outs o
+witnesses-allowed : (ins outs : ℕ) (o : Option Witnesses) → MaybeFormed ins outs o → witnessesEmpty o ≡ false → MaybeAllowed ins outs o
 witnesses-allowed ins outs none g e = tt
 witnesses-allowed ins outs (some x) g e =
     record {
-      inputs = g .inputCount;
-      outputs = g .outputCount;
+      inputs = g .inputsMatch;
+      outputs = g .outputsMatch;
       inputsAllowed = every-as InputWitnessFormed InputWitnessAllowed (λ w f. f .allowed) (x .inputs) (g .inputs);
       outputsAllowed = every-as OutputWitnessFormed OutputWitnessAllowed (λ w f. f .allowed) (x .outputs) (g .outputs);
       notEmpty = e;
     }
 
-pub allowed-in : (room : Room) (x : Contents) → Formed room x → allEmpty (x .witnesses) ≡ false → length (contentsBytes x) ≤ limit → Allowed x
+pub allowed-in : (room : Room) (x : Contents) → Formed room x → witnessesEmpty (x .witnesses) ≡ false → length (contentsBytes x) ≤ limit → Allowed x
 allowed-in room x g e h =
     record {
       version = g .version;
@@ -155,4 +155,4 @@ allowed-matches ins outs (some x) g = (g .inputs, g .outputs)
 
 pub formed-matches : (ins outs : ℕ) (o : Option Witnesses) → MaybeFormed ins outs o → Matches ins outs o
 formed-matches ins outs none g = tt
-formed-matches ins outs (some x) g = (g .inputCount, g .outputCount)
+formed-matches ins outs (some x) g = (g .inputsMatch, g .outputsMatch)

@@ -11,7 +11,7 @@ use Rattle.layout.specs.Outcome.{Sizes, roomOf, partial}
 use Rattle.layout.specs.Contents.{Contents, contentsBytes}
 use Rattle.layout.specs.Records.{headOf}
 use Rattle.layout.specs.Fields.{Field, fieldsOf, limited}
-use Rattle.layout.specs.Beginnings.{allEmpty, verdict, ending, Starts}
+use Rattle.layout.specs.Beginnings.{witnessesEmpty, verdict, ending, Starts}
 use Rattle.layout.proofs.Reading.{by-cases, told, by-bytes, finished-not-more, refused-not-more, refused-not-finished}
 use Rattle.layout.proofs.Whole.{judged}
 
@@ -38,7 +38,7 @@ verdict-ends true h e = refused-not-more e
 verdict-ends false h e = finished-not-more e
 
 pub ending-ends : (x : Contents) → ending x .0 ≡ more → ⊥
-ending-ends x = limited-ends (fieldsOf 0 x) (verdict x) (length (contentsBytes x)) (verdict-ends (allEmpty (x .witnesses)) (headOf x))
+ending-ends x = limited-ends (fieldsOf 0 x) (verdict x) (length (contentsBytes x)) (verdict-ends (witnessesEmpty (x .witnesses)) (headOf x))
 
 -- The first of the first bytes are first bytes.
 pub starts-sooner : (z : Sizes) (xs : List ℕ) (x : Contents) → Starts z xs x → (k : ℕ) → Starts z (take k xs) x

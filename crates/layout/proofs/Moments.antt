@@ -3,7 +3,7 @@
 --     number-so-far   number by number: what stands at a place is the transaction's number there, or 0 before its moment
 --     so-far          before the last byte: more is wanted, all bytes are taken
 --     all-come        from the last byte on: finished, and every number has come
---     read-exactly    of whatever length, one equation: the outcome of each beginning of what 01 allows but for its length
+--     read-exactly    of first bytes of what is formed, and of all of them with anything behind, one equation: the outcome
 use Prim.Native.Nat.{ℕ, _+_, _-_, _<_, _≤_}
 use mathlib.Core.Path.{_≡_, refl, sym, _∙_, ap}
 use mathlib.Core.Bool.{Bool, true, false, cond}
@@ -21,7 +21,7 @@ use Rattle.layout.specs.Contents.{Contents, contentsBytes}
 use Rattle.layout.specs.Fields.{fieldsOf}
 use Rattle.layout.specs.Records.{headOf, tablesOf}
 use Rattle.layout.specs.Moments.{momentsOf, kept, tablesBy}
-use Rattle.layout.specs.Beginnings.{allEmpty, verdict, ending, endOf, outcomeBy, Starts}
+use Rattle.layout.specs.Beginnings.{witnessesEmpty, verdict, ending, endOf, outcomeBy, Starts}
 use Rattle.layout.proofs.Reading.{by-cases, taken-there, finished-not-more, refused-not-more, refused-not-finished}
 use Rattle.layout.proofs.Theorems.{stable, takes-all, taken-limit}
 use Rattle.layout.proofs.Whole.{judged}
@@ -114,7 +114,7 @@ module _ (z : Sizes) (xs : List ℕ) (x : Contents) (b : Starts z xs x) (bytes :
       let there : n ≤ length xs = omega (arith, leb-true (ending x .1) (length xs) t, ends) in
       let in-limit = taken-limit z xs bytes in
       let front : take n xs ≡ contentsBytes x = sym (take-append-le n xs (b .rest) there) ∙ ap (take n) (b .same) ∙ take-at (contentsBytes x) (b .behind) n refl in
-      let allowed = allowed-in (roomOf z) x g (not-empty (allEmpty (x .witnesses)) (headOf x) h (said .0)) (omega (arith, in-limit, taken, ends)) in
+      let allowed = allowed-in (roomOf z) x g (not-empty (witnessesEmpty (x .witnesses)) (headOf x) h (said .0)) (omega (arith, in-limit, taken, ends)) in
       let begins : Begins z xs x = record { allowed = allowed; fits = g .fits; rest = drop n xs; same = sym (take-append-drop n xs) ∙ ap (λ (l : List ℕ). l ++ drop n xs) front } in
       ap (λ (o : Outcome). o .tables) (accepted z xs x begins)
 

@@ -8,12 +8,12 @@ use lib.Dec.{leb, eqb}
 use lib.ListN.{length, take, length-append}
 use lib.Seq.{length-take-le}
 use Rattle.layout.specs.Number.{little, bytesOf}
-use Rattle.layout.specs.Layout.{Layout, refused, refuse, enter, opaque, Reading, run}
+use Rattle.layout.specs.Layout.{Layout, Answer, refused, refuse, enter, opaque, Reading, run}
 use Rattle.layout.specs.Transaction.{Head, limit, announced, within, compactAt, countAt, bodyAt, transaction}
-use Rattle.layout.specs.Outcome.{Sizes, roomOf}
+use Rattle.layout.specs.Outcome.{Sizes, roomOf, partial}
 use Rattle.layout.specs.Contents.{Contents, contentsBytes, compactBytes, Every}
 use Rattle.layout.specs.Fields.{Formed}
-use Rattle.layout.specs.Sites.{What, counts, lengths, values, assets, nonces, issuances, Site, site, sitesOf, compact, listedAt, Fault, notShortest, tooMany, notListed, nullIssuance, Among, Refuses}
+use Rattle.layout.specs.Sites.{What, counts, lengths, values, assets, nonces, issuances, Site, site, sitesOf, compact, listedAt, Fault, notShortest, tooMany, notListed, nullIssuance, Among}
 use Rattle.layout.proofs.Number.{length-bytes}
 use Rattle.layout.proofs.Compact.{least-fits}
 use Rattle.layout.proofs.Outpoint.{true-not-false}
@@ -101,6 +101,10 @@ given-at what at l s number fault (nullIssuance c e f) room =
     let q = null-issuance (k .0) at (k .1) nonce entropy ys (f .nonce-long) (f .entropy-long) (omega arith) in
     (ap (λ (r : Reading Head). r .answer) same ∙ q .0, ap (λ (r : Reading Head). r .taken) same ∙ q .1 ∙ sym long)))
 
+-- Whatever follows, these bytes are refused with this number and place, and taken.
+abbrev pub Refuses : Sizes → List ℕ → List ℕ → ℕ → ℕ → Type 0
+Refuses z front bytes number place = (ys : List ℕ) → let o = partial z (front ++ (bytes ++ ys)) in _≡_ {A = Answer Head × ℕ} (o .answer, o .taken) (refused number place, length front + length bytes)
+
 -- one of those for which all hold
 pub every-among : (P : Site → Type 0) (s : Site) (ss : List Site) → Every P ss → Among s ss → P s
 every-among P s ss g a = middle (a .before) (subst (Every P) (a .same) g)
@@ -109,7 +113,7 @@ every-among P s ss g a = middle (a .before) (subst (Every P) (a .same) g)
     middle [] h = h .0
     middle (t ∷ ts) h = middle ts (h .1)
 
--- Of every transaction that 01 allows but for its length: at each of its counts, lengths, prefixes and issuances, behind what stands before it, each fault is refused as 01 says.
+-- Of every formed transaction: at each of its counts, lengths, prefixes and issuances, behind what stands before it, each fault that ends within the limit is refused as 01 says.
 pub faults-given : (z : Sizes) (x : Contents) → Formed (roomOf z) x → (s : Site) → Among s (sitesOf (roomOf z) 0 x) → (number : ℕ) (fault : List ℕ) → Fault (s .what) number fault → s .at + length fault ≤ limit → Refuses z (take (s .at) (contentsBytes x)) fault number (s .at)
 faults-given z x g s a number fault f room ys =
     let l = transaction (roomOf z) in

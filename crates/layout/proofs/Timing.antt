@@ -16,7 +16,7 @@ use Rattle.layout.specs.Outcome
 use Rattle.layout.specs.Outcome.{Tables, Sizes, roomOf, zeros, laid, readingOf, partial}
 use Rattle.layout.specs.Contents.{Value, null, explicit, commitment, Token, absent, present, Issuance, Input, Output, InputWitness, OutputWitness, Witnesses, Contents, compactBytes, flat, bodyBytes, listBytes, valueBytes, tokenBytes, issuanceBytes, rawVout, inputBytes, outputBytes, inputWitnessBytes, outputWitnessBytes, flagOf, witnessesBytes, contentsBytes, Every, IssuanceAllowed, Flagged, InputAllowed}
 use Rattle.layout.specs.Fields.{InputFormed, Formed}
-use Rattle.layout.specs.Beginnings.{allEmpty}
+use Rattle.layout.specs.Beginnings.{witnessesEmpty}
 use Rattle.layout.specs.Records.{valuePrefix, headOf}
 use Rattle.layout.proofs.Number.{length-bytes}
 use Rattle.layout.proofs.Reading.{refused-not-more, refused-not-finished, stable}
@@ -281,7 +281,7 @@ module _ (room : Room) (x : Contents) (g : Formed room x) where
   log-before ys k h = timed-by ys k (goes-before k _ (wholeEvents room 0 x) (omega (arith, looks-taken (transaction room) (contentsBytes x ++ ys))) (goes room x g ys))
 
   -- no reading of the first k bytes is refused, since that of all of them finishes
-  unrefused : length (contentsBytes x) ≤ limit → allEmpty (x .witnesses) ≡ false → (ys : List ℕ) (k n p : ℕ) → run (transaction room) (take k (contentsBytes x ++ ys)) .answer ≡ refused n p → ⊥
+  unrefused : length (contentsBytes x) ≤ limit → witnessesEmpty (x .witnesses) ≡ false → (ys : List ℕ) (k n p : ℕ) → run (transaction room) (take k (contentsBytes x ++ ys)) .answer ≡ refused n p → ⊥
   unrefused h filled ys k n p e =
       let xs = contentsBytes x ++ ys in
       let same = ap (run (transaction room)) (sym (take-append-drop k xs)) ∙ stable (transaction room) (take k xs) (drop k xs) (λ q. refused-not-more (sym e ∙ q)) in
@@ -298,7 +298,7 @@ tables-before z x g ys k h wants =
     let r = readingOf z (take k (contentsBytes x ++ ys)) in
     ap (λ (a : Answer Head). Outcome.shown a (laid (r .log) (zeros z)) (zeros z)) wants ∙ ap (λ (l : List Entry). laid l (zeros z)) (log-before (roomOf z) x g ys k h)
 
-pub tables-timed : (z : Sizes) (x : Contents) → Formed (roomOf z) x → length (contentsBytes x) ≤ limit → allEmpty (x .witnesses) ≡ false → (ys : List ℕ) (k : ℕ) → partial z (take k (contentsBytes x ++ ys)) .tables ≡ laid (entered (by k) (wholeTimed 0 x)) (zeros z)
+pub tables-timed : (z : Sizes) (x : Contents) → Formed (roomOf z) x → length (contentsBytes x) ≤ limit → witnessesEmpty (x .witnesses) ≡ false → (ys : List ℕ) (k : ℕ) → partial z (take k (contentsBytes x ++ ys)) .tables ≡ laid (entered (by k) (wholeTimed 0 x)) (zeros z)
 tables-timed z x g h filled ys k =
     let r = readingOf z (take k (contentsBytes x ++ ys)) in
     unrefused-shown (r .answer) (laid (r .log) (zeros z)) (zeros z) (unrefused (roomOf z) x g h filled ys k) ∙ ap (λ (l : List Entry). laid l (zeros z)) (log-timed (roomOf z) x g h ys k)

@@ -14,7 +14,7 @@ use Rattle.layout.specs.Layout.{Layout, refuse, accept, finished, refuse
 use Rattle.layout.specs.Transaction.{Head, Room, limit, numberAt, countAt, each, alone, Seen, seen, inputAt, outputAt, inputWitnessAt, outputWitnessAt, transaction}
 use Rattle.layout.specs.Contents.{Token, absent, present, valueBytes, issuanceBytes, rawVout, Input, Output, InputWitness, OutputWitness, Witnesses, Contents, compactBytes, flat, bodyBytes, listBytes, tokenBytes, inputBytes, outputBytes, inputWitnessBytes, outputWitnessBytes, flagOf, witnessesBytes, contentsBytes, Every, inputEmpty, outputEmpty, all}
 use Rattle.layout.specs.Fields.{InputFormed, OutputFormed, InputWitnessFormed, OutputWitnessFormed, WitnessesFormed, MaybeFormed, Formed, fixed, listFields, inputFields, outputFields, inputWitnessFields, outputWitnessFields, witnessesFields, fieldsOf, limited}
-use Rattle.layout.specs.Beginnings.{allEmpty, verdict, ending}
+use Rattle.layout.specs.Beginnings.{witnessesEmpty, verdict, ending}
 use Rattle.layout.specs.Sites.{Site, sitesEach, listSites, inputSites, outputSites, inputWitnessSites, inputWitnessesSites, outputWitnessSites, witnessesSites, sitesOf}
 use Rattle.layout.specs.Records.{itemsOf, sum, itemCount}
 use Rattle.layout.proofs.Number.{length-bytes}
@@ -154,12 +154,12 @@ module _ (room ins outs : ℕ) where
   abbrev pub witnessesEvents : ℕ → Witnesses → List Event
   witnessesEvents at x = inputWitnessesEvents room 0 0 at (x .inputs) ++ outputWitnessesEvents 0 (at + length (flat inputWitnessBytes (x .inputs))) (x .outputs)
 
-  witnessed-codes : Codes witnessed Witnessed (λ x. flat inputWitnessBytes (x .inputs) ++ flat outputWitnessBytes (x .outputs)) witnessesLog witnessesEvents (λ at x. witnessesFields at (some x)) (λ at x. witnessesSites room at (some x)) (λ x. seen (sum itemsOf (x .inputs)) (allEmpty (some x)))
+  witnessed-codes : Codes witnessed Witnessed (λ x. flat inputWitnessBytes (x .inputs) ++ flat outputWitnessBytes (x .outputs)) witnessesLog witnessesEvents (λ at x. witnessesFields at (some x)) (λ at x. witnessesSites room at (some x)) (λ x. seen (sum itemsOf (x .inputs)) (witnessesEmpty (some x)))
   witnessed-codes =
       seen-as (λ x. (x .inputs, x .outputs))
       (λ x g. (
-        (g .formed .inputCount, stacks-fit room (seen 0 true) (x .inputs) (omega (arith, g .room-for)) (g .formed .inputs)),
-        (g .formed .outputCount, outputs-good (inputsSeen room (seen 0 true) (x .inputs)) (x .outputs) (g .formed .outputs)),
+        (g .formed .inputsMatch, stacks-fit room (seen 0 true) (x .inputs) (omega (arith, g .room-for)) (g .formed .inputs)),
+        (g .formed .outputsMatch, outputs-good (inputsSeen room (seen 0 true) (x .inputs)) (x .outputs) (g .formed .outputs)),
       ))
       (λ x g. refl)
       (λ at x g. ap₂ (λ (es fs : List Entry). es ++ fs) (inputs-log room 0 (seen 0 true) at (x .inputs)) (outputs-log 0 (inputsSeen room (seen 0 true) (x .inputs)) (at + length (flat inputWitnessBytes (x .inputs))) (x .outputs)))
@@ -171,7 +171,7 @@ module _ (room ins outs : ℕ) where
       let fit = fit-stacks room (seen 0 true) (x .0) (omega arith) (g .0 .1) in (
         record { inputs = x .0; outputs = x .1 },
         record {
-          formed = record { inputCount = g .0 .0; outputCount = g .1 .0; inputs = fit .1; outputs = good-outputs (inputsSeen room (seen 0 true) (x .0)) (x .1) (g .1 .1) };
+          formed = record { inputsMatch = g .0 .0; outputsMatch = g .1 .0; inputs = fit .1; outputs = good-outputs (inputsSeen room (seen 0 true) (x .0)) (x .1) (g .1 .1) };
           room-for = omega (arith, fit .0);
         },
         refl,
@@ -194,14 +194,14 @@ module _ (room ins outs : ℕ) where
     plain : eqb flag 0 ≡ true → Codes tailAt (λ (x : Unit {0}). Unit {0}) (λ x. []) (λ at x. []) (λ at x. []) (λ at x. []) (λ at x. []) (λ x. seen 0 false)
     plain e = if-true (eqb flag 0) (λ at k. k (seen 0 false) at) otherwise e (empty-codes (seen 0 false))
 
-    flagged : eqb flag 0 ≡ false → eqb flag 1 ≡ true → Codes tailAt Witnessed (λ x. flat inputWitnessBytes (x .inputs) ++ flat outputWitnessBytes (x .outputs)) witnessesLog witnessesEvents (λ at x. witnessesFields at (some x)) (λ at x. witnessesSites room at (some x)) (λ x. seen (sum itemsOf (x .inputs)) (allEmpty (some x)))
+    flagged : eqb flag 0 ≡ false → eqb flag 1 ≡ true → Codes tailAt Witnessed (λ x. flat inputWitnessBytes (x .inputs) ++ flat outputWitnessBytes (x .outputs)) witnessesLog witnessesEvents (λ at x. witnessesFields at (some x)) (λ at x. witnessesSites room at (some x)) (λ x. seen (sum itemsOf (x .inputs)) (witnessesEmpty (some x)))
     flagged e₀ e₁ = if-false (eqb flag 0) (λ at k. k (seen 0 false) at) otherwise e₀ (if-true (eqb flag 1) witnessed (λ at k. refuse 7 4) e₁ witnessed-codes)
 
     unflagged : eqb flag 0 ≡ false → eqb flag 1 ≡ false → Codes tailAt (λ (x : Unit {0}). ⊥) (λ x. []) (λ at x. []) (λ at x. []) (λ at x. []) (λ at x. []) (λ x. seen 0 false)
     unflagged e₀ e₁ = if-false (eqb flag 0) (λ at k. k (seen 0 false) at) otherwise e₀ (if-false (eqb flag 1) witnessed (λ at k. refuse 7 4) e₁ (refuse-codes 7 4 (λ x g. g)))
 
     abbrev tailSeen : Option Witnesses → Seen
-    tailSeen o = seen (itemCount o) (allEmpty o)
+    tailSeen o = seen (itemCount o) (witnessesEmpty o)
 
     abbrev pub tailLog : ℕ → Option Witnesses → List Entry
     tailLog at none = []
@@ -325,7 +325,7 @@ module _ (room : Room) where
   abbrev headBy : Contents → ℕ → Head
   headBy x bytes = record { version = x .version; flag = flagOf (x .witnesses); inputs = length (x .inputs); outputs = length (x .outputs); items = itemCount (x .witnesses); locktime = x .locktime; bytes = bytes }
 
-  whole-codes : Codes (wholeAt room) (Formed room) contentsBytes wholeLog wholeEvents fieldsOf (sitesOf room) (λ x. (allEmpty (x .witnesses), headBy x))
+  whole-codes : Codes (wholeAt room) (Formed room) contentsBytes wholeLog wholeEvents fieldsOf (sitesOf room) (λ x. (witnessesEmpty (x .witnesses), headBy x))
   unfolding contentsBytes
   whole-codes =
       seen-as (λ x. (x .version, (flagOf (x .witnesses), (x .inputs, (x .outputs, (x .locktime, x .witnesses))))))
@@ -440,13 +440,13 @@ reads room x g h ys =
     let n = length (contentsBytes x) in
     ap (λ (l : Layout Head). run l (contentsBytes x ++ ys)) (whole-transaction room)
     ∙ whole-codes room .forth x g 0 judge ys (omega arith)
-    ∙ ap (after n (wholeLog room 0 x)) (judge-run (allEmpty (x .witnesses)) (headBy room x (0 + n)) ys)
-    ∙ λ j. reading (cond (allEmpty (x .witnesses)) (refused 8 4) (finished (headBy room x (zero-add n j)))) (add-zero n j) (append-nil (wholeLog room 0 x) j)
+    ∙ ap (after n (wholeLog room 0 x)) (judge-run (witnessesEmpty (x .witnesses)) (headBy room x (0 + n)) ys)
+    ∙ λ j. reading (cond (witnessesEmpty (x .witnesses)) (refused 8 4) (finished (headBy room x (zero-add n j)))) (add-zero n j) (append-nil (wholeLog room 0 x) j)
 
 -- and met in this order; of whatever length, up to where it stops
 pub goes : (room : Room) (x : Contents) → Formed room x → (ys : List ℕ) → Along 0 (contentsBytes x) (trace (transaction room) (contentsBytes x ++ ys)) (wholeEvents room 0 x) []
 goes room x g ys =
-    goes-as (ap (λ (l : Layout Head). trace l (contentsBytes x ++ ys)) (whole-transaction room)) refl (judge-trace (allEmpty (x .witnesses)) (headBy room x (0 + length (contentsBytes x))) ys)
+    goes-as (ap (λ (l : Layout Head). trace l (contentsBytes x ++ ys)) (whole-transaction room)) refl (judge-trace (witnessesEmpty (x .witnesses)) (headBy room x (0 + length (contentsBytes x))) ys)
     (whole-codes room .traced x g 0 judge ys)
 
 pub traced : (room : Room) (x : Contents) → Formed room x → length (contentsBytes x) ≤ limit → (ys : List ℕ) → trace (transaction room) (contentsBytes x ++ ys) ≡ wholeEvents room 0 x
@@ -459,8 +459,8 @@ judged room x g ys =
     ap (λ (l : Layout Head). told (run l (contentsBytes x ++ ys))) (whole-transaction room)
     ∙ (let r = run (wholeAt room 0 judge) (contentsBytes x ++ ys) in ap (λ (m : ℕ). (r .answer, m)) (sym (zero-add (r .taken))))
     ∙ whole-codes room .judged x g 0 judge ys
-    ∙ ap (λ (r : Reading Head). limited (fieldsOf 0 x) (settled (0 + n) r)) (judge-run (allEmpty (x .witnesses)) (headBy room x (0 + n)) ys)
-    ∙ λ j. limited (fieldsOf 0 x) (cond (allEmpty (x .witnesses)) (refused 8 4) (finished (headBy room x (zero-add n j))), (add-zero (0 + n) ∙ zero-add n) j)
+    ∙ ap (λ (r : Reading Head). limited (fieldsOf 0 x) (settled (0 + n) r)) (judge-run (witnessesEmpty (x .witnesses)) (headBy room x (0 + n)) ys)
+    ∙ λ j. limited (fieldsOf 0 x) (cond (witnessesEmpty (x .witnesses)) (refused 8 4) (finished (headBy room x (zero-add n j))), (add-zero (0 + n) ∙ zero-add n) j)
 
 -- and comes to each of its sites behind the bytes before it
 pub reached : (room : Room) (x : Contents) → Formed room x → Every (Comes (transaction room) (contentsBytes x) 0) (sitesOf room 0 x)
@@ -471,7 +471,7 @@ pub record Found (room : Room) (xs : List ℕ) : Type 0 where
   pub contents : Contents
   pub rest : List ℕ
   pub formed : Formed room contents
-  pub notEmpty : allEmpty (contents .witnesses) ≡ false
+  pub notEmpty : witnessesEmpty (contents .witnesses) ≡ false
   pub within : length (contentsBytes contents) ≤ limit
   pub same : xs ≡ contentsBytes contents ++ rest
 
@@ -487,7 +487,7 @@ found room xs h bs e =
       contents = u .held;
       rest = u .rest;
       formed = u .good;
-      notEmpty = judge-back (allEmpty (u .held .witnesses)) (headBy room (u .held) (0 + length (contentsBytes (u .held)))) (u .rest) h (u .goes);
+      notEmpty = judge-back (witnessesEmpty (u .held .witnesses)) (headBy room (u .held) (0 + length (contentsBytes (u .held)))) (u .rest) h (u .goes);
       within = omega (arith, u .ends);
       same = u .same;
     }

@@ -1,7 +1,7 @@
--- What the caller sees of any bytes, from what transactions hold. Every list of bytes is one of these:
---     starts    the first bytes of a transaction that 01 allows but for its length and for witnesses that are all empty, and of anything behind it
---     faulty    the first bytes of one, up to a count, a length, a prefix or an issuance of it, and then a fault there, or the first bytes of one
---     flagged   with a flag above 1, where one with flag 0 would be one of these
+-- What the caller sees of any bytes, from what transactions hold. Of more than 4,000,000 bytes it is what is seen of the first 4,000,000; and those, or fewer, are one of these:
+--     starts     first bytes of a transaction, or all of them and anything behind: of one that 01 would allow if it had no size limit and no refusal 8, and for which the tables have room
+--     faulty     the bytes of such a transaction up to one of its counts, lengths, prefixes or issuances, and there a fault, or the first bytes of a fault (6: all)
+--     flagAbove  with a flag above 1: as with flag 0, but 7 where that would finish
 use Prim.Native.Nat.{ℕ, _+_, _<_}
 use mathlib.Core.Path.{_≡_}
 use mathlib.Core.Bool.{Bool, false, cond, _&&_}
@@ -21,12 +21,12 @@ use Rattle.layout.specs.Moments.{tablesBy}
 -- ---- the first bytes of a transaction
 
 -- 8: flag 1, all witnesses empty.
-abbrev pub allEmpty : Option Witnesses → Bool
-allEmpty none = false
-allEmpty (some x) = all inputEmpty (x .inputs) && all outputEmpty (x .outputs)
+abbrev pub witnessesEmpty : Option Witnesses → Bool
+witnessesEmpty none = false
+witnessesEmpty (some x) = all inputEmpty (x .inputs) && all outputEmpty (x .outputs)
 
 abbrev pub verdict : Contents → Answer Head
-verdict x = cond (allEmpty (x .witnesses)) (refused 8 4) (finished (headOf x))
+verdict x = cond (witnessesEmpty (x .witnesses)) (refused 8 4) (finished (headOf x))
 
 -- Its answer, and the bytes taken with it: 2 at the first field that would end past 4,000,000; if there is none, the verdict with the last byte.
 abbrev pub ending : Contents → Answer Head × ℕ
@@ -39,7 +39,7 @@ endOf z x = record { answer = ending x .0; taken = ending x .1; tables = shown (
 abbrev pub outcomeBy : ℕ → Sizes → Contents → Outcome
 outcomeBy k z x = cond (leb (ending x .1) k) (endOf z x) (record { answer = more; taken = k; tables = tablesBy k z x })
 
--- The bytes are the first of its own, and of anything behind it.
+-- The bytes are the first of its own, and of anything behind it: `rest` is what they still lack of those.
 pub record Starts (z : Sizes) (xs : List ℕ) (x : Contents) : Type 0 where
   pub formed : Formed (roomOf z) x
   pub rest : List ℕ
@@ -48,15 +48,30 @@ pub record Starts (z : Sizes) (xs : List ℕ) (x : Contents) : Type 0 where
 
 -- ---- and then a fault
 
--- Its number, with its last byte. A count's or length's further bytes would end past 4,000,000: 2, with the first.
+-- Its number, with its last byte. Where it would end past 4,000,000 it is a count's or length's further bytes (one byte, or the 66 of 6, are there in 4,000,000): 2, with the first.
 abbrev pub faultEnding : ℕ → ℕ → List ℕ → Answer Head × ℕ
 faultEnding at number fault = cond (leb (at + length fault) limit) (refused number at, at + length fault) (refused 2 at, at + 1)
 
--- Until then more is wanted, and nothing enters behind the place.
+-- Until then more is wanted, and nothing enters behind the place: what the transaction holds there doesn't matter.
 abbrev pub faultBy : ℕ → Sizes → Contents → ℕ → ℕ → List ℕ → Outcome
 faultBy k z x at number fault =
     let v = faultEnding at number fault in
     cond (leb (v .1) k) (record { answer = v .0; taken = v .1; tables = zeros z }) (record { answer = more; taken = k; tables = tablesBy at z x })
+
+-- A fault at one of its sites. Of a count or length in part nothing enters, so it may be one that could still turn out right. Within the 66 bytes of 6 numbers enter, and until the last of them
+-- they are the first bytes of an issuance with a value: so 6 is told whole.
+pub record FaultIn (z : Sizes) (xs : List ℕ) (x : Contents) : Type 0 where
+  pub there : Site
+  pub first : Starts z (take (there .at) xs) x
+  pub among : Among there (sitesOf (roomOf z) 0 x)
+  pub near : there .at < length xs
+  pub number : ℕ
+  pub fault : List ℕ
+  pub rest : List ℕ
+  pub behind : List ℕ
+  pub wrong : Fault (there .what) number fault
+  pub same : drop (there .at) xs ++ rest ≡ fault ++ behind
+  pub whole : number ≡ 6 → rest ≡ []
 
 -- ---- with a flag above 1
 
@@ -71,11 +86,15 @@ sevenOf z o = record { answer = seven (o .answer); taken = o .taken; tables = sh
 
 -- ---- all bytes
 
--- 6 is a fault of 66 bytes, and before the last of them the issuance may still have a value: so all of them are there.
+-- The flag is 0 or 1, or not there yet.
 pub data Plain (z : Sizes) (xs : List ℕ) (o : Outcome) : Type 0 where
   starts : (x : Contents) → Starts z xs x → o ≡ outcomeBy (length xs) z x → Plain z xs o
-  faulty : (x : Contents) (s : Site) → Starts z (take (s .at) xs) x → Among s (sitesOf (roomOf z) 0 x) → s .at < length xs → (number : ℕ) (fault rest behind : List ℕ) → Fault (s .what) number fault → drop (s .at) xs ++ rest ≡ fault ++ behind → (number ≡ 6 → rest ≡ []) → o ≡ faultBy (length xs) z x (s .at) number fault → Plain z xs o
+  faulty : (x : Contents) (f : FaultIn z xs x) → o ≡ faultBy (length xs) z x (f .there .at) (f .number) (f .fault) → Plain z xs o
 
 pub data Known (z : Sizes) (xs : List ℕ) (o : Outcome) : Type 0 where
   plain : Plain z xs o → Known z xs o
-  flagged : (a b c d flag : ℕ) (ys : List ℕ) → xs ≡ a ∷ b ∷ c ∷ d ∷ flag ∷ ys → 1 < flag → (p : Outcome) → Plain z (a ∷ b ∷ c ∷ d ∷ 0 ∷ ys) p → o ≡ sevenOf z p → Known z xs o
+  flagAbove : (a b c d flag : ℕ) (ys : List ℕ) → xs ≡ a ∷ b ∷ c ∷ d ∷ flag ∷ ys → 1 < flag → (p : Outcome) → Plain z (a ∷ b ∷ c ∷ d ∷ 0 ∷ ys) p → o ≡ sevenOf z p → Known z xs o
+
+-- What is told of any bytes.
+abbrev pub Told : Sizes → List ℕ → Outcome → Type 0
+Told z xs o = Known z (take limit xs) o

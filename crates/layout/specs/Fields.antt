@@ -40,8 +40,8 @@ pub record OutputWitnessFormed (x : OutputWitness) : Type 0 where
 
 -- A witness for each input and each output.
 pub record WitnessesFormed (ins outs : ℕ) (x : Witnesses) : Type 0 where
-  pub inputCount : length (x .inputs) ≡ ins
-  pub outputCount : length (x .outputs) ≡ outs
+  pub inputsMatch : length (x .inputs) ≡ ins
+  pub outputsMatch : length (x .outputs) ≡ outs
   pub inputs : Every InputWitnessFormed (x .inputs)
   pub outputs : Every OutputWitnessFormed (x .outputs)
 
@@ -49,7 +49,7 @@ abbrev pub MaybeFormed : ℕ → ℕ → Option Witnesses → Type 0
 MaybeFormed ins outs none = Unit {0}
 MaybeFormed ins outs (some x) = WitnessesFormed ins outs x
 
--- Allowed but for the size limit, and but for witnesses that are all empty; and the tables have room for it.
+-- What 01 would allow if it had no size limit and no refusal 8; and the tables have room for it.
 pub record Formed (room : Room) (x : Contents) : Type 0 where
   pub version : x .version < 2 ^ 32
   pub inputCount : Short (x .inputs)
@@ -142,5 +142,5 @@ fieldsOf at x =
 
 -- An answer and the bytes taken: 2 at the first field that would end past 4,000,000, with the last byte before it; if there is none, these.
 unfoldable pub limited : List Field → Answer Head × ℕ → Answer Head × ℕ
-limited [] z = z
-limited (f ∷ fs) z = cond (leb (f .end) limit) (limited fs z) (refused 2 (f .place), f .start)
+limited [] v = v
+limited (f ∷ fs) v = cond (leb (f .end) limit) (limited fs v) (refused 2 (f .place), f .start)

@@ -6,10 +6,10 @@
 --     Contents      a transaction as what it holds: its bytes, and what is allowed
 --     Records       its head numbers and records
 --     Refusals      what the bytes taken show where a reading refuses
---     Fields        where each field starts and ends, and refusal 2 by them
---     Sites         where counts, lengths, prefixes and issuances start
+--     Fields        what is formed: allowed but for the size limit and 8; where each field starts and ends, and refusal 2 by them
+--     Sites         where counts, lengths, prefixes and issuances start, and the bytes of a fault there
 --     Moments       when each number enters, and the tables so far
---     Beginnings    what the caller sees of any bytes: the first of a transaction, or those and a fault
+--     Beginnings    what the caller sees of any bytes: first bytes of a transaction, those and a fault, a flag above 1
 --     Outline       what it holds, with each part that doesn't bear replaced by its length, or blotted out
 --     Writing       from head numbers, tables and source to bytes, or a refusal; the fee question
 --     Shows         which transaction head numbers and tables over a source show

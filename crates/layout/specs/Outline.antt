@@ -1,6 +1,6 @@
--- A transaction's outline: what it holds, with each part that 01's "Bearing bytes" excepts replaced by its length, as so many of one number.
+-- A transaction's outline: what it holds, with each part that 01's "Bearing bytes" excepts replaced by as many of one number as it has bytes.
 -- 01's words stand at each: txids, blinding nonces, entropies, the 32-byte parts of assets, nonces and commitments (null ones have none),
--- and bodies of scripts, proofs and stack items. All else is bearing, and stays.
+-- and bodies of scripts, proofs and stack items. All else that is taken is bearing, and stays.
 use Prim.Native.Nat.{ℕ}
 use mathlib.Core.List.{List, map}
 use mathlib.Core.Option.{Option, Option·map}
@@ -83,6 +83,6 @@ module _ (filler : ℕ) where
 abbrev pub outline : Contents → Contents
 outline = outlineBy 0
 
--- Blotted out: 256 is no byte, so what is left of its bytes is what bears.
+-- Blotted out: 256 is no byte, so what is left of its bytes, as far as they are taken, is what bears.
 abbrev pub blotted : Contents → Contents
 blotted = outlineBy 256

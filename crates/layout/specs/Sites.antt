@@ -1,4 +1,4 @@
--- Where a transaction's counts, lengths, prefixes and issuances start: the sites of refusals 3 to 6, and of 2 for further bytes and bodies.
+-- Where a transaction's counts, lengths, prefixes and issuances start: the sites of refusals 3 to 6; and the bytes of each fault there.
 use Prim.Native.Nat.{ℕ, _+_, _-_, _^_, _<_}
 use mathlib.Core.Path.{_≡_}
 use mathlib.Core.Bool.{Bool, true, false}
@@ -6,9 +6,7 @@ use mathlib.Core.List.{List, [], _∷_, _++_}
 use mathlib.Core.Option.{Option, none, some}
 use lib.ListN.{length}
 use Rattle.layout.specs.Number.{little, bytesOf}
-use Rattle.layout.specs.Layout.{Answer, refused}
-use Rattle.layout.specs.Transaction.{Head, Room, announced, least}
-use Rattle.layout.specs.Outcome.{Sizes, partial}
+use Rattle.layout.specs.Transaction.{Room, announced, least}
 use Rattle.layout.specs.Refusals.{listedValue, listedAsset, listedNonce}
 use Rattle.layout.specs.Contents.{Issuance, Input, Output, InputWitness, OutputWitness, Witnesses, Contents, compactBytes, flat, bodyBytes, listBytes, valueBytes, tokenBytes, inputBytes, outputBytes, inputWitnessBytes, outputWitnessBytes, Fixed}
 
@@ -115,6 +113,7 @@ pub record NullIssuance (bytes : List ℕ) : Type 0 where
   pub entropy-long : Fixed 32 entropy
   pub same : bytes ≡ nonce ++ (entropy ++ (0 ∷ 0 ∷ []))
 
+-- Is it a count or a length?
 abbrev pub compact : What → Bool
 compact (counts left) = true
 compact lengths = true
@@ -123,6 +122,7 @@ compact assets = false
 compact nonces = false
 compact issuances = false
 
+-- The prefixes that are listed. Where none stands, none is missing in the list.
 abbrev pub listedAt : What → ℕ → Bool
 listedAt (counts left) p = true
 listedAt lengths p = true
@@ -142,9 +142,3 @@ pub record Among (s : Site) (ss : List Site) : Type 0 where
   pub before : List Site
   pub after : List Site
   pub same : ss ≡ before ++ (s ∷ after)
-
--- ---- what is refused at a site, behind the bytes in front of it
-
--- Whatever follows, these bytes are refused with this number and place, and taken.
-abbrev pub Refuses : Sizes → List ℕ → List ℕ → ℕ → ℕ → Type 0
-Refuses z front bytes number place = (ys : List ℕ) → let o = partial z (front ++ (bytes ++ ys)) in _≡_ {A = Answer Head × ℕ} (o .answer, o .taken) (refused number place, length front + length bytes)
