@@ -1,4 +1,6 @@
 // What the programs that take one transaction share: the input, from a file or from standard input, and pieces of the lines they print.
+#![tactic(auto)]
+
 ghost use Rattle.std.specs.Prelude.{length};
 ghost use Rattle.command.specs.Within.{Within, Moves};
 
@@ -6,7 +8,7 @@ use libc::{STDERR_FILENO, STDIN_FILENO, STDOUT_FILENO};
 
 // What came of the input. Whole: it ended after so many bytes, which stand at the buffer's start. Longer: the buffer is full, and at least
 // one byte follows. Nothing: help was asked for and printed; or the call was wrong or something could not be read, and standard error says so.
-#[derive(Drop)]
+#[derive(Clone, Copy)]
 pub enum Taken {
     Whole(usize),
     Longer,
@@ -14,7 +16,7 @@ pub enum Taken {
 }
 
 // What one read brought.
-#[derive(Drop)]
+#[derive(Clone, Copy)]
 pub enum Step {
     Came(usize),
     End,

@@ -4,7 +4,7 @@ ghost use Rattle.std.specs.Prelude.{◌≤◌, length};
 use encode::Count;
 
 // The first so many are a line's.
-#[derive(Drop)]
+#[derive(Clone, Copy)]
 struct Bytes {
     all: [u8; 10],
     count: usize,

@@ -1,11 +1,13 @@
 // Counts and lengths beside a stranger's. Each line of standard input has a value and the bytes that bitcoinlib writes for it, or '!' and
 // bytes that are not in shortest form; compare/compactsize/make made them. A line that differs from what is read here is printed.
+#![tactic(auto)]
+
 mod line;
 
 use libc::{STDIN_FILENO, STDOUT_FILENO};
 
 // How many lines there were: with a value, not in shortest form, and among both those that differ.
-#[derive(Drop)]
+#[derive(Clone, Copy)]
 struct Tally {
     values: usize,
     longer: usize,

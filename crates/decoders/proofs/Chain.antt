@@ -6,11 +6,10 @@
 --     others, past      what is none of 0 to k - 1 is at least k, and past the end of a list of k numbers
 use Prim.Native.Nat.{ℕ, zero, suc, ◌≤◌, zero-le}
 use mathlib.Core.Path.{◌≡◌, refl, sym, ◌∙◌, ap}
-use mathlib.Core.Bool.{Bool, true, false, not, ◌&&◌}
+use mathlib.Core.Bool.{Bool, true, false, ◌&&◌}
 use mathlib.Core.List.{List}
 use native.Mathlib.Omega.{arith}
 use lib.ListN.{length, get_or, get_or-eq_default}
-use borrow.Author.Tests.{not-true, not-false}
 
 pub and_false : (a : Bool) → (a && false) ≡ false
 and_false true = refl
@@ -23,11 +22,11 @@ p and q = simp (p, q)
 pub last : {a b : Bool} → a ≡ true → b ≡ (a && b)
 last p = simp p
 
-pub off : {b t : Bool} → b ≡ t → not b ≡ true → t ≡ false
-off {b} e p = sym e ∙ not-true b p
+pub off : {b t : Bool} → b ≡ t → b ≡ false → t ≡ false
+off e p = sym e ∙ p
 
-pub on : {b t : Bool} → b ≡ t → not b ≡ false → t ≡ true
-on {b} e p = sym e ∙ not-false b p
+pub on : {b t : Bool} → b ≡ t → b ≡ true → t ≡ true
+on e p = sym e ∙ p
 
 abbrev pub Others : ℕ → ℕ → Type 0
 Others zero x = Unit {0}

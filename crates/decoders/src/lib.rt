@@ -1,4 +1,6 @@
 // The reader: `TransactionDecoder` with its fresh start, feeding and finishing, reading at once and the strict form.
+#![tactic(auto)]
+
 mod close;
 mod compact;
 mod entry;
@@ -16,7 +18,7 @@ ghost use Rattle.decoders.specs.Machine.{machine};
 ghost use Rattle.decoders.specs.Feeding.{tables, begun, out_of, pushed, ended, whole_of, read_once, read_strict};
 
 // The field that is being gathered: its stage and form, its width in bytes, how many of them are there, and what they are worth.
-#[derive(Drop)]
+#[derive(Clone, Copy)]
 pub struct Field {
     pub stage: usize,
     pub form: usize,
@@ -26,7 +28,7 @@ pub struct Field {
 }
 
 // How many numbers each lent table holds.
-#[derive(Drop)]
+#[derive(Clone, Copy)]
 pub struct Sizes {
     pub inputs: usize,
     pub outputs: usize,
@@ -34,7 +36,7 @@ pub struct Sizes {
 }
 
 // The head numbers so far; items is the next item's number.
-#[derive(Drop)]
+#[derive(Clone, Copy)]
 pub struct Counts {
     pub version: usize,
     pub flag: usize,
@@ -45,7 +47,7 @@ pub struct Counts {
 }
 
 // Where the reading stands: the record's number, the items left in its stack, and what later fields need of earlier ones.
-#[derive(Drop)]
+#[derive(Clone, Copy)]
 pub struct Spot {
     pub index: usize,
     pub left: usize,
@@ -55,7 +57,7 @@ pub struct Spot {
 }
 
 // The reading state. docs/STATE.md gives each number's meaning and range.
-#[derive(Drop)]
+#[derive(Clone, Copy)]
 pub struct TransactionDecoder {
     pub field: Field,
     pub taken: usize,
@@ -65,7 +67,7 @@ pub struct TransactionDecoder {
 }
 
 // Up to two numbers that go into a table: 0 none, 1 input, 2 output, 3 item; each with its own place there.
-#[derive(Drop)]
+#[derive(Clone, Copy)]
 pub struct Entered {
     pub table: usize,
     pub count: usize,
@@ -75,14 +77,14 @@ pub struct Entered {
     pub number2: usize,
 }
 
-#[derive(Drop)]
+#[derive(Clone, Copy)]
 pub struct Settled {
     pub decoder: TransactionDecoder,
     pub entered: Entered,
 }
 
 // Beside the tables, when a reading is finished.
-#[derive(Drop)]
+#[derive(Clone, Copy)]
 pub struct Head {
     pub version: u32,
     pub flag: u32,
@@ -94,7 +96,7 @@ pub struct Head {
 }
 
 // Finished is answer 0; more wanted is a case by itself; a refusal has its number and place.
-#[derive(Drop)]
+#[derive(Clone, Copy)]
 pub enum Answer {
     Finished(Head),
     More,
@@ -102,7 +104,7 @@ pub enum Answer {
 }
 
 // What feeding and finishing hand back: the state, the bytes taken from the piece, the answer.
-#[derive(Drop)]
+#[derive(Clone, Copy)]
 pub struct Fed {
     pub decoder: TransactionDecoder,
     pub taken: usize,
@@ -110,7 +112,7 @@ pub struct Fed {
 }
 
 // What reading at once hands back.
-#[derive(Drop)]
+#[derive(Clone, Copy)]
 pub struct Read {
     pub taken: usize,
     pub answer: Answer,

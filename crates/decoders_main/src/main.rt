@@ -1,5 +1,7 @@
 // The reader on document 01's loads and on edges of its rules. Each line was worked out from document 01 (crates/loads/proofs/Loads.antt
 // has most of the loads, with their bytes laid out). Bytes that a reading never looks at are `e`.
+#![tactic(auto)]
+
 use decoders::{Answer, Fed, TransactionDecoder};
 
 // Room for one record each: in one piece, byte by byte, and in uneven pieces.
@@ -274,7 +276,7 @@ fn sizes() {
 }
 
 // A transaction's answer, 0 or the refusal's number; how many numbers of each table it may fill, and their sum.
-#[derive(Drop)]
+#[derive(Clone, Copy)]
 struct Want {
     no: usize,
     taken: usize,

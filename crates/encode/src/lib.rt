@@ -1,4 +1,6 @@
 // Counts and lengths: port of src/encode.rs.
+#![tactic(auto)]
+
 mod little;
 
 ghost use Rattle.std.specs.Prelude.{◌≡◌, leb};
@@ -6,7 +8,7 @@ ghost use Rattle.layout.specs.Transaction.{announced, least};
 ghost use Rattle.encode.specs.Count.{answer_of, counted};
 
 // What a count reads as: its value, or a refusal's number and place.
-#[derive(Drop)]
+#[derive(Clone, Copy)]
 pub enum Count {
     Value(usize),
     Refused(usize, usize),

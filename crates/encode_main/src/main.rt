@@ -1,6 +1,9 @@
 // The count reader on document 01's loads and their cut forms: a line for each, the value or the refusal's number and place.
+#![tactic(auto)]
+
 use encode::Count;
-use libc::STDOUT_FILENO;
+
+const STDOUT_FILENO: i32 = 1;
 
 fn print(n: usize) {
     io::print_decimal(STDOUT_FILENO, n as u64);

@@ -1,4 +1,6 @@
 // The writer: `write`, `written_length` and the fee question `is_fee`. Port of src/transaction/encoders.rs.
+#![tactic(auto)]
+
 mod check;
 mod length;
 mod put;
@@ -11,7 +13,7 @@ ghost use Rattle.encoders.specs.Answers.{told, head_numbers, out_of, told_out};
 use decoders::{Head, TransactionDecoder};
 
 // What writing answers: done with the written length, or refused with its number and place.
-#[derive(Drop)]
+#[derive(Clone, Copy)]
 pub enum Written {
     Done(usize),
     Refused(usize, usize),

@@ -9,7 +9,7 @@
 use crate::load::{Edit, Load};
 
 // Where the reading of the lines stands: in a name, or among the changes.
-#[derive(Drop)]
+#[derive(Clone, Copy)]
 struct Reader {
     load: Load,
     edit: Edit,

@@ -3,7 +3,7 @@ use crate::show;
 use decoders::{Answer, Head, TransactionDecoder};
 
 // A change: a letter, and the last three numbers behind it; whether a digit would go on with the last.
-#[derive(Drop)]
+#[derive(Clone, Copy)]
 pub(crate) struct Edit {
     pub(crate) letter: u8,
     pub(crate) a: usize,
@@ -13,7 +13,7 @@ pub(crate) struct Edit {
 }
 
 // How many numbers of each table, bytes of the source and bytes of the output are lent.
-#[derive(Drop)]
+#[derive(Clone, Copy)]
 pub(crate) struct Lent {
     inputs: usize,
     outputs: usize,
@@ -22,7 +22,7 @@ pub(crate) struct Lent {
     room: usize,
 }
 
-#[derive(Drop)]
+#[derive(Clone, Copy)]
 pub(crate) struct Load {
     head: Head,
     inputs: [u32; 60],

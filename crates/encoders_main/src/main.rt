@@ -1,5 +1,7 @@
 // The writer on document 01's loads and rules. Each line was worked out from document 01: the answer of `write`, as number, place and
 // length; that of `written_length`; and what the output holds, every byte of which was marked before.
+#![tactic(auto)]
+
 mod cases;
 mod load;
 mod long;

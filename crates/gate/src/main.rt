@@ -1,4 +1,6 @@
 // The gate: reads a transaction from standard input and prints the strict form's answer, place, and input, output and item counts.
+#![tactic(auto)]
+
 mod text;
 
 ghost use Rattle.std.specs.Prelude.{◌≡◌};
@@ -9,7 +11,7 @@ use decoders::{Answer, TransactionDecoder};
 use libc::{STDERR_FILENO, STDIN_FILENO, STDOUT_FILENO};
 
 // The five numbers that are printed.
-#[derive(Drop)]
+#[derive(Clone, Copy)]
 pub struct Line {
     pub number: usize,
     pub place: usize,
@@ -19,7 +21,7 @@ pub struct Line {
 }
 
 // What came of the input. Settled: before its end, and whatever follows. Failed: a read failed, so nothing is known.
-#[derive(Drop)]
+#[derive(Clone, Copy)]
 pub enum Seen {
     Ended(Line),
     Settled(Line),
@@ -27,7 +29,7 @@ pub enum Seen {
 }
 
 // The same, where the line stands in the text: its first bytes, so many of them.
-#[derive(Drop)]
+#[derive(Clone, Copy)]
 pub enum Said {
     Ended(usize),
     Settled(usize),

@@ -1,5 +1,6 @@
 // The limit of 4,000,000 bytes: fields that end there pass, and those that end one byte later are refused, with 2 at the place that document
 // 01 gives. The first input's script has 3,999,744 + low bytes, all from one buffer; what lies behind it comes up to the limit.
+#![tactic(auto)]
 
 fn wide(b: u8) -> usize {
     b as usize

@@ -1,5 +1,7 @@
 // Shows a transaction to a person: the strict form's answer in words; where it finished, the head numbers, then every input, output and
 // item, field by field in document 01's order.
+#![tactic(auto)]
+
 mod answer;
 mod field;
 mod record;

@@ -1,6 +1,8 @@
 // A reading's state and tables between calls: what has ended stays so; empty pieces, tables of another size (10) and forged states (11) change
 // nothing. Before each call every number of the tables it is handed is marked: "untouched" says that all marks are still there. Only the
 // tables in mid-reading stay as they are from call to call.
+#![tactic(auto)]
+
 use decoders::TransactionDecoder;
 
 // Marks the tables, feeds a piece.
@@ -206,7 +208,7 @@ fn out_of_range_ended() {
 }
 
 // A reading with its tables, as they are between calls.
-#[derive(Drop)]
+#[derive(Clone, Copy)]
 struct View {
     decoder: TransactionDecoder,
     inputs: [u32; 20],

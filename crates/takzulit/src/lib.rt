@@ -1,4 +1,6 @@
 // The library that Rust and C link: the reader and the writer over plain numbers, fixed arrays and slices. include/takzulit.h declares it.
+#![tactic(auto)]
+
 mod pack;
 
 ghost use Rattle.std.specs.Prelude.{◌≡◌};

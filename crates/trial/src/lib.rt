@@ -1,4 +1,6 @@
 // What the reader's test programs share: bytes are fed in pieces; a line tells the answer, the bytes taken, and what the tables hold.
+#![tactic(auto)]
+
 ghost use Rattle.std.specs.Prelude.{◌<◌, ◌≤◌};
 
 use decoders::{Answer, Fed, TransactionDecoder};

@@ -1,4 +1,6 @@
 // Reads a transaction, holds what writing it again gives, from its bytes and its tables, beside those bytes, and says whether they are the same.
+#![tactic(auto)]
+
 mod beside;
 
 ghost use Rattle.std.specs.Prelude.{◌≡◌};
@@ -11,7 +13,7 @@ use decoders::{Answer, Head, TransactionDecoder};
 use encoders::Written;
 
 // What came of it. Unwritten and Different are for a reader or a writer that breaks its promise.
-#[derive(Drop)]
+#[derive(Clone, Copy)]
 pub enum Outcome {
     Same(usize),
     Different(usize),
@@ -20,7 +22,7 @@ pub enum Outcome {
 }
 
 // How far the written bytes were held beside the source, and whether they are the same so far.
-#[derive(Drop)]
+#[derive(Clone, Copy)]
 pub struct Walk {
     pub at: usize,
     pub same: bool,

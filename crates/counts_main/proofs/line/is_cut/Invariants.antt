@@ -1,0 +1,10 @@
+use Rattle.std.proofs.Common.{◌-◌, ◌≤◌, length, rules}
+use Rattle.counts_main.proofs.line.is_refused.Reads as is-refused-reads
+use Rattle.counts_main.proofs.line.part.Reads as part-reads
+use Rattle.counts_main.proofs.line.is_cut.Given as goal
+
+abbrev pub invariant-loop-k : goal.invariant-loop-k
+invariant-loop-k l = l.k ≤ length l.s
+
+abbrev pub decreases-loop-k : goal.decreases-loop-k
+decreases-loop-k l = length l.s - l.k

@@ -1,0 +1,5 @@
+use borrow.Author.Rules.{rules}
+use Rattle.decoders.proofs.TransactionDecoder.value_settled.Goals as goal
+
+pub returns : goal.returns
+returns c = cc

@@ -1,0 +1,6 @@
+use Rattle.decoders.proofs.Gather.{two_value}
+use borrow.Author.Rules.{rules}
+use Rattle.decoders.proofs.feed.two.Goals as goal
+
+pub returns : goal.returns
+returns c = two_value c.args.s.now _ _ c.requires c.byte.ensures c.byte-2.ensures

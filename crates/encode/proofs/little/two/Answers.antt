@@ -1,0 +1,22 @@
+-- `encode::little::two` meets its contract: a number of 2 bytes from its two halves, by the law over the width.
+use Prim.Native.Nat.{◌+◌, ◌*◌, ◌^◌, ◌<◌}
+use native.Mathlib.Omega.{arith}
+use borrow.Author.Rules.{rules}
+use Rattle.layout.specs.Number.{little}
+use Rattle.encode.proofs.Number.{paired_value, paired_small}
+use Rattle.encode.proofs.little.two.Goals as goal
+use Rattle.encode.proofs.little.two.Goals.{After-one-2}
+
+small : (c : After-one-2) → c.one.result + 256 ^ 1 * c.one-2.result < 256 ^ 2
+small c =
+    paired_small little 1 c.args.at c.args.s.now c.requires c.one.ensures c.one-2.ensures
+    (λ i. (c.type_inv.s i).fits)
+
+pub overflow_mul-result : goal.overflow_mul-result
+overflow_mul-result c = omega (arith, small (goal.at.overflow_mul-result c).After-one-2)
+
+pub overflow_add-result : goal.overflow_add-result
+overflow_add-result c = omega (arith, small (goal.at.overflow_add-result c).After-one-2)
+
+pub returns : goal.returns
+returns c = paired_value little 1 _ _ c.requires c.one.ensures c.one-2.ensures

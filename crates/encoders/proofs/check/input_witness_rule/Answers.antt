@@ -1,0 +1,12 @@
+use Rattle.layout.specs.Writing.{input_witness_rule}
+use borrow.Author.Tests.{eq-eqb, ne_eqb}
+use borrow.Author.Rules.{rules}
+use Rattle.encoders.proofs.check.input_witness_rule.Goals as goal
+
+pub returns-then-flag-eq1 : goal.returns-then-flag-eq1
+unfolding input_witness_rule
+returns-then-flag-eq1 c = rw (eq-eqb _ _ c.if-flag-eq1.true, c.lies.ensures, c.lies-then-flag-eq1.ensures, c.wide.ensures)
+
+pub returns : goal.returns
+unfolding input_witness_rule
+returns c = rw (ne_eqb _ _ c.if-flag-eq1.false, c.zeros7.ensures)

@@ -1,0 +1,7 @@
+use Rattle.layout.specs.Writing.{zeros₇}
+use borrow.Author.Rules.{rules}
+use Rattle.encoders.proofs.check.zeros7.Goals as goal
+
+pub returns : goal.returns
+unfolding zeros₇
+returns c = rw c.zeros4.ensures

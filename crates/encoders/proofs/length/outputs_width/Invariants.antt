@@ -1,0 +1,13 @@
+use Rattle.encoders.proofs.Widths.{Summing, summing_first, summing_last, summing_next}
+use Rattle.encoders.proofs.Judging.{lent, lent_length}
+use Rattle.encoders.specs.Needs.{whole_output}
+use borrow.Author.Rules.{rules}
+use native.Mathlib.Omega.{arith}
+use Prim.Native.Nat.{◌-◌}
+use Rattle.encoders.proofs.length.outputs_width.Given as goal
+
+abbrev pub invariant-loop-i : goal.invariant-loop-i
+invariant-loop-i l = Summing (whole_output l.flag) 14 l.n l.outputs l.sum l.i
+
+abbrev pub decreases-loop-i : goal.decreases-loop-i
+decreases-loop-i l = l.n - l.i

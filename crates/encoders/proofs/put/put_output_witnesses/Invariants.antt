@@ -1,0 +1,11 @@
+use Rattle.encoders.proofs.Rows.{row_within, row_ready, Turn, turn_start, turn_room, turn_next, turn_end}
+use Rattle.encoders.specs.Puts.{output_witness_row_bytes}
+use Prim.Native.Nat.{◌-◌}
+use native.Mathlib.Omega.{arith}
+use Rattle.encoders.proofs.put.put_output_witnesses.Given as goal
+
+abbrev pub invariant-loop-i : goal.invariant-loop-i
+invariant-loop-i l = Turn (output_witness_row_bytes l.source) 14 l.n l.outputs l.initial.out l.k l.i l.out l.next
+
+abbrev pub decreases-loop-i : goal.decreases-loop-i
+decreases-loop-i l = l.n - l.i

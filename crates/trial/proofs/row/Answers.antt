@@ -1,0 +1,3 @@
+use Rattle.std.proofs.Common.{◌-◌, ◌≤◌, length, rules}
+use Rattle.trial.proofs.row.Goals as goal
+
