@@ -4,7 +4,9 @@
 
 mod line;
 
-use libc::{STDIN_FILENO, STDOUT_FILENO};
+const STDIN_FILENO: i32 = 0;
+
+const STDOUT_FILENO: i32 = 1;
 
 // How many lines there were: with a value, not in shortest form, and among both those that differ.
 #[derive(Clone, Copy)]

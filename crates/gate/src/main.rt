@@ -8,7 +8,10 @@ ghost use Rattle.decoders.specs.Feeding.{tables, layout_sizes};
 ghost use Rattle.gate.specs.Verdict.{is_refused, verdict_of, Judged, Spoken, Printed};
 
 use decoders::{Answer, TransactionDecoder};
-use libc::{STDERR_FILENO, STDIN_FILENO, STDOUT_FILENO};
+use std::env::{Env, FillError};
+use std::io::{Print, Read, Stdin};
+
+const STDERR_FILENO: i32 = 2;
 
 // The five numbers that are printed.
 #[derive(Clone, Copy)]
@@ -88,16 +91,21 @@ fn verdict(answer: Answer, taken: usize, follows: bool) -> Line
 
 // Reads standard input through the buffer, again and again, and feeds what came. A refusal ends it, and so does a byte behind a finished
 // transaction; a transaction that is finished with the bytes read so far needs one more read.
-fn listen(buffer: &mut [u8], inputs: &mut [u32], outputs: &mut [u32], items: &mut [u32]) -> Seen
+fn listen(
+    mut input: Stdin,
+    buffer: &mut [u8],
+    inputs: &mut [u32],
+    outputs: &mut [u32],
+    items: &mut [u32],
+) -> Seen
     ensures { Judged (layout_sizes (tables inputs.old outputs.old items.old)) result }
 {
     let mut decoder = TransactionDecoder::new(inputs, outputs, items);
     loop {
-        let got = libc::read(STDIN_FILENO, buffer);
-        if got < 0 {
-            return Seen::Failed;
-        }
-        let n = io::count(got, buffer);
+        let n = match input.read(buffer) {
+            Ok(n) => n,
+            Err(_) => return Seen::Failed,
+        };
         if n == 0 {
             let last = decoder.end(inputs, outputs, items);
             let answer = last.answer;
@@ -121,6 +129,7 @@ fn listen(buffer: &mut [u8], inputs: &mut [u32], outputs: &mut [u32], items: &mu
 
 // Listens, and puts the line into the text.
 fn answer(
+    input: Stdin,
     buffer: &mut [u8],
     inputs: &mut [u32],
     outputs: &mut [u32],
@@ -129,7 +138,7 @@ fn answer(
 ) -> Said
     ensures { Spoken (layout_sizes (tables inputs.old outputs.old items.old)) text.new result }
 {
-    let seen = listen(buffer, inputs, outputs, items);
+    let seen = listen(input, buffer, inputs, outputs, items);
     match seen {
         Seen::Ended(line) => {
             let n = text::put_line(line, text);
@@ -144,11 +153,11 @@ fn answer(
 }
 
 // One write. A line that was cut short is none, so it is told as a write that failed.
-fn print(line: &[u8])
+fn print(rt: &HostRuntime, line: &[u8])
     requires { Printed line.now }
 {
-    let put = libc::write(STDOUT_FILENO, line);
-    if io::count(put, line) < line.len() {
+    let put = rt.write_some(line).unwrap_or(0);
+    if put < line.len() {
         io::write_all(
             STDERR_FILENO,
             b"gate: standard output could not be written\n",
@@ -156,9 +165,15 @@ fn print(line: &[u8])
     }
 }
 
+// Whether there is an argument behind the program's name.
+fn is_given(rt: &HostRuntime) -> bool {
+    let mut word = [0u8; 1];
+    !matches!(rt.arg(1, &mut word), Err(FillError::NotPresent))
+}
+
 // 65,536 bytes, and tables of 64 input, 64 output and 256 item records.
-fn main() {
-    if 1 < os::arg_count() {
+fn main(rt: HostRuntime) {
+    if is_given(&rt) {
         io::write_all(STDERR_FILENO, b"usage: gate < TRANSACTION\n");
         return;
     }
@@ -168,6 +183,7 @@ fn main() {
     let mut items: [u32; 512] = [0; 512];
     let mut text = [0u8; 105];
     let said = answer(
+        rt.stdin(),
         &mut buffer,
         &mut inputs,
         &mut outputs,
@@ -175,8 +191,8 @@ fn main() {
         &mut text,
     );
     match said {
-        Said::Ended(n) => print(&text[..n]),
-        Said::Settled(n) => print(&text[..n]),
+        Said::Ended(n) => print(&rt, &text[..n]),
+        Said::Settled(n) => print(&rt, &text[..n]),
         Said::Failed => {
             io::write_all(STDERR_FILENO, b"gate: standard input could not be read\n");
         }

@@ -4,10 +4,11 @@
 ghost use Rattle.std.specs.Prelude.{◌<◌, ◌≤◌};
 
 use decoders::{Answer, Fed, TransactionDecoder};
-use libc::STDOUT_FILENO;
 
 // What every number of the tables is before a fresh start, and before a call that must leave them.
 pub const MARK: u32 = 7;
+
+const STDOUT_FILENO: i32 = 1;
 
 pub fn text(s: &[u8]) {
     io::write_all(STDOUT_FILENO, s);

@@ -1,5 +1,4 @@
-use Rattle.std.proofs.Common.{◌-◌, ◌≤◌, length, ⊎_elim, rules}
-use Rattle.counts_main.proofs.counted.Reads as counted-reads
+use Rattle.std.proofs.Common.{◌-◌, ◌≤◌, length}
 use Rattle.counts_main.proofs.lines.Given as goal
 
 abbrev pub invariant-loop-k : goal.invariant-loop-k

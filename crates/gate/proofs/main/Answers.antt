@@ -21,4 +21,3 @@ slice_bounds-print-end-in-Settled c = sym (length-take-le _ _ (settled_there _ _
 
 pub print-requires-in-Settled : goal.print-requires-in-Settled
 print-requires-in-Settled c = settled_printed _ _ _ _ c.answer-said.ensures c.in-Settled.is
-
