@@ -1,12 +1,12 @@
 -- One field's step of the code: what it needs, and that it is feeding the bytes that belong to the field.
-use Prim.Native.Nat.{ℕ, zero, suc, ◌+◌, ◌-◌, ◌*◌, ◌^◌, ◌<◌, ◌≤◌, min}
+use Prim.Native.Nat.{ℕ, zero, suc, ◌+◌, ◌-◌, ◌^◌, ◌<◌, ◌≤◌, min}
 use mathlib.Core.Path.{◌≡◌, refl, sym, ◌∙◌, ap, ap₂, subst}
-use mathlib.Core.Bool.{Bool, true, false, cond}
+use mathlib.Core.Bool.{true, cond}
 use mathlib.Core.List.{List, [], ◌∷◌}
 use native.Mathlib.Nat.{add-zero, pow-succ'}
 use native.Mathlib.Omega.{arith}
-use lib.Dec.{leb, ltb, eqb}
-use lib.ListN.{length, take, get_or, length-take}
+use lib.Dec.{ltb, eqb}
+use lib.ListN.{length, take, get_or}
 use lib.Seq.{length-take-le}
 use borrow.Author.Tests.{eq-eqb, ne_eqb, lt-ltb, eqb-true, eqb-false, ltb-true, ltb-false}
 use Rattle.layout.specs.Number.{Bytes}
@@ -14,17 +14,16 @@ use Rattle.layout.specs.Transaction.{limit}
 use Rattle.layout.specs.Outcome.{Tables}
 use Rattle.layout.proofs.Number.{bytes_take}
 use Rattle.layout.proofs.Reading.{by_cases}
-use Rattle.decoders.specs.declared.Entered.{Entered}
 use Rattle.decoders.specs.declared.Settled.{Settled}
 use Rattle.decoders.specs.declared.Sizes.{Sizes}
-use Rattle.decoders.specs.Machine.{FURTHER, FIRST, OPAQUE, LITTLE, BIG, State, worth, worths, gathered, enter_by, machine, Machine, fed, entering, settle, Safe}
-use Rattle.decoders.specs.Range.{in_range, greatest_width}
+use Rattle.decoders.specs.Machine.{FURTHER, FIRST, OPAQUE, LITTLE, State, worth, worths, gathered, enter_by, machine, Machine, fed, entering, settle, Safe}
+use Rattle.decoders.specs.Range.{greatest_width}
 use Rattle.decoders.proofs.Rows.{kinds}
 use Rattle.decoders.specs.Feeding.{sizes_of}
 use Rattle.decoders.specs.Needs.{size_by, Storable, Gathers, Fits, Feeds, ours}
 use Rattle.decoders.proofs.Gather.{worth_below, worths_opaque, fed_within, fed_settles}
-use Rattle.decoders.proofs.Ranges.{Open, Ready, range_open, gather_range, gather_ready, ready_safe}
-use Rattle.decoders.proofs.Settles.{settle_fits, settle_range}
+use Rattle.decoders.proofs.Ranges.{Open, Ready, range_open, gather_ready, ready_safe}
+use Rattle.decoders.proofs.Settles.{settle_fits}
 use Rattle.decoders.proofs.Feeds.{settle_taken}
 
 -- ---- widths

@@ -5,13 +5,13 @@
 --     zero-behind-*                          a call that answers finished leaves 0 behind its records
 --     *-exactly, *-accepted                  finished exactly for an allowed transaction with room, and then with its head and tables
 --     *-numbered, one-repeated               the numbers and places that a refusal can have
-use Prim.Native.Nat.{ℕ, zero, suc, ◌+◌, ◌-◌, ◌*◌, ◌<◌, ◌≤◌}
+use Prim.Native.Nat.{ℕ, ◌+◌, ◌*◌, ◌≤◌}
 use mathlib.Core.Path.{◌≡◌, refl, sym, ◌∙◌, ap, ap₂, subst}
 use mathlib.Core.Bool.{Bool, true, false, cond, true≢false}
 use mathlib.Core.List.{List, [], ◌∷◌, ◌++◌}
 use mathlib.Core.Logic.{◌↔◌}
 use native.Mathlib.Omega.{arith}
-use lib.Dec.{leb, ltb, eqb}
+use lib.Dec.{ltb, eqb}
 use lib.ListN.{length, get_or}
 use borrow.Author.Tests.{eq-eqb, ne_eqb, eqb-true, eqb-false}
 use Rattle.layout.specs.Number.{Bytes}
@@ -29,14 +29,13 @@ use Rattle.layout.proofs.Theorems.{table_of, refusal_placed, finish_finished}
 use Rattle.layout.proofs.RoundTrips.{Begins, begins, accepted, Is, whole_accepted, whole_exactly}
 use Rattle.decoders.specs.declared.Head as declared
 use Rattle.decoders.specs.declared.Answer.{Answer}
-use Rattle.decoders.specs.declared.Answer.TheVariants.{Finished, More, Refused}
-use Rattle.decoders.specs.declared.Settled.{Settled}
+use Rattle.decoders.specs.declared.Answer.TheVariants.{Finished, Refused}
 use Rattle.decoders.specs.Machine.{State, Machine, machine, field, with_field, refuse, opened, next_input, next_output, witnesses_end, next_output_witness, next_input_witness, next_script_item, next_pegin_item, body_ends, body_opened, length_settled, inputs_counted, outputs_counted, script_counted, pegin_counted, compact_settled, first_settled, further_settled, value_part, asset_part, nonce_part, amount_next, null_keys_next, keys_next, asset_next, value_next, nonce_next, sequence_next, locktime_next, little_settled, big_settled, opaque_settled, settle_by, settle, gather, entering, step, fed, answer_of}
 use Rattle.decoders.specs.Range.{in_range}
-use Rattle.decoders.specs.Feeding.{sizes_of, cleared, layout_sizes, begun, told, told_head, Out, out, gate, closed, pushed, ended, finish, Whole, whole, read_once, read_strict}
+use Rattle.decoders.specs.Feeding.{sizes_of, cleared, layout_sizes, begun, told, told_head, Out, out, gate, closed, pushed, ended, finish, whole, read_once, read_strict}
 use Rattle.decoders.proofs.Feeds.{cond_same, cond_decoder, step_case, fed_range}
 use Rattle.decoders.proofs.Entries.{gate_starts, finish_closes}
-use Rattle.decoders.proofs.Theorems.{refused_stage, ended_repeats, pushed_open, ended_open, open_answer, open_answer_end, finished_not_refused, more_not_refused, finished_not_more, same_number, same_place, refused_between, misuse_untouched, misuse_untouched_end, eleven_first, gate_known, gate_zero, ten_exactly, range_fresh, range_kept, range_kept_end, join, Held, feeding, started, finished, counted, counted_on, call_counts, Ends, bytes_front, taken_as, feeding_held, call_reads, finishing_reads}
+use Rattle.decoders.proofs.Theorems.{refused_stage, ended_repeats, pushed_open, ended_open, open_answer, open_answer_end, finished_not_refused, more_not_refused, finished_not_more, same_number, same_place, refused_between, misuse_untouched, misuse_untouched_end, eleven_first, gate_known, gate_zero, ten_exactly, range_fresh, range_kept, range_kept_end, join, feeding, started, finished, counted, counted_on, call_counts, Ends, bytes_front, taken_as, feeding_held, call_reads, finishing_reads}
 
 -- ---- a call, feeding or finishing
 

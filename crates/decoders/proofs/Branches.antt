@@ -1,14 +1,14 @@
 -- The machine's definitions at each test that the code makes: by which way it went, what is left.
 use Prim.Native.Nat.{ℕ, ◌+◌, ◌-◌, ◌<◌, ◌≤◌}
-use mathlib.Core.Path.{◌≡◌, refl, sym, ◌∙◌, ap, subst}
+use mathlib.Core.Path.{◌≡◌, sym, ◌∙◌, ap, subst}
 use mathlib.Core.Bool.{Bool, true, false, cond, not, ◌||◌}
 use native.Mathlib.Omega.{arith}
-use lib.Dec.{leb, ltb, eqb}
+use lib.Dec.{leb, eqb}
 use borrow.Author.Tests.{le-leb, lt-leb, eq-eqb, ne_eqb, eqb-false, ltb-true, ltb-false, not-true, not-false}
 use Rattle.layout.specs.Transaction.{limit, announced, least}
 use Rattle.layout.proofs.Reading.{by_cases}
 use Rattle.confidential.specs.Width.{value_width, asset_width, nonce_width}
-use Rattle.decoders.specs.Machine.{FURTHER, OPAQUE, BIG, State, field, with_field, set_index, set_inputs, set_outputs, set_left, set_null, set_empty, input_room, output_room, item_room, refuse, finished, opened, number, compact, opaque, further, further_input, settled, quiet, input1, input2, output2, high, low, next_input, next_output, next_input_witness, next_script_item, next_pegin_item, body_ends, emptied, body_entered, body_seen, body_opened, length_settled, inputs_counted, outputs_counted, script_counted, pegin_counted, compact_settled, first_settled, further_settled, value_part, asset_part, nonce_part, amount_next, null_keys_next, keys_next, asset_next, value_next, nonce_next, sequence_next, locktime_next, locktime_settled, little_settled, big_settled, opaque_settled, settle_by, Counted, Safe}
+use Rattle.decoders.specs.Machine.{FURTHER, OPAQUE, BIG, State, field, with_field, set_index, set_inputs, set_outputs, set_left, set_null, set_empty, input_room, output_room, item_room, refuse, finished, opened, number, compact, opaque, further_input, settled, quiet, input1, input2, output2, high, low, next_input, next_output, next_input_witness, next_script_item, next_pegin_item, body_ends, emptied, body_entered, body_seen, body_opened, length_settled, inputs_counted, outputs_counted, script_counted, pegin_counted, compact_settled, first_settled, further_settled, value_part, asset_part, nonce_part, amount_next, null_keys_next, keys_next, asset_next, value_next, nonce_next, sequence_next, locktime_next, locktime_settled, little_settled, big_settled, opaque_settled, settle_by, Counted, Safe}
 use Rattle.decoders.specs.Needs.{count_start, count_announces, count_long, count_settled}
 
 true_not_false : true ≡ false → ⊥

@@ -1,9 +1,8 @@
 -- Where a call starts and ends: the definitions at each test that the code makes.
-use Prim.Native.Nat.{ℕ, ◌-◌, ◌^◌, ◌<◌, ◌≤◌}
-use mathlib.Core.Path.{◌≡◌, refl, sym, ◌∙◌, ap, ap₂, subst}
-use mathlib.Core.Bool.{Bool, true, false, cond, not, ◌&&◌}
+use Prim.Native.Nat.{ℕ, ◌<◌, ◌≤◌}
+use mathlib.Core.Path.{◌≡◌, ap, ap₂}
+use mathlib.Core.Bool.{Bool, true, false, cond, ◌&&◌}
 use native.Mathlib.Omega.{arith}
-use lib.Dec.{leb, ltb, eqb}
 use borrow.Author.Tests.{le-leb, lt-leb, lt-ltb, le-ltb, eq-eqb, ne_eqb}
 use Rattle.layout.specs.Outcome.{Tables}
 use Rattle.decoders.specs.declared.Head.{Head}
@@ -11,9 +10,8 @@ use Rattle.decoders.specs.declared.Answer.{Answer}
 use Rattle.decoders.specs.declared.Answer.TheVariants.{Finished, More, Refused}
 use Rattle.decoders.specs.Machine.{State, refuse, answer_of}
 use Rattle.decoders.specs.Range.{in_range}
-use Rattle.decoders.specs.Feeding.{told, sizes, Out, out, cleared, gate, finish, follow, closed}
-use Rattle.decoders.specs.Needs.{head_told, Headed, Closes}
-use Rattle.decoders.proofs.Ranges as r
+use Rattle.decoders.specs.Feeding.{told, sizes, out, cleared, gate, finish, follow, closed}
+use Rattle.decoders.specs.Needs.{head_told, Closes}
 use Rattle.decoders.proofs.Ranges.{range_finished}
 
 module _ (s : State) where

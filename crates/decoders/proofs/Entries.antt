@@ -1,5 +1,5 @@
 -- The public functions: what they need, and that they keep their promises.
-use Prim.Native.Nat.{ℕ, zero, suc, ◌+◌, ◌-◌, ◌<◌, ◌≤◌}
+use Prim.Native.Nat.{ℕ, ◌-◌}
 use mathlib.Core.Path.{◌≡◌, refl, sym, ◌∙◌, ap, ap₂, subst}
 use mathlib.Core.Bool.{Bool, true, false, cond, ◌&&◌}
 use mathlib.Core.List.{List}
@@ -7,21 +7,19 @@ use native.Mathlib.Nat.{zero-add}
 use native.Mathlib.Omega.{arith}
 use lib.Dec.{leb, ltb, eqb}
 use lib.ListN.{length}
-use borrow.Author.Tests.{eq-eqb, ne_eqb, le-leb, lt-leb, eqb-true, leb-true, leb-false}
+use borrow.Author.Tests.{eq-eqb, ne_eqb, eqb-true, leb-false}
 use Rattle.layout.specs.Number.{Bytes}
 use Rattle.layout.specs.Layout as layout
 use Rattle.layout.specs.Transaction.{Head}
 use Rattle.layout.specs.Outcome as outcome
 use Rattle.layout.specs.Outcome.{Tables, laid, shown}
 use Rattle.layout.proofs.Reading.{by_cases}
-use Rattle.decoders.specs.declared.Sizes.{Sizes}
 use Rattle.decoders.specs.declared.Answer.{Answer}
 use Rattle.decoders.specs.declared.Answer.TheVariants.{Refused}
 use Rattle.decoders.specs.declared.Fed.{Fed}
-use Rattle.decoders.specs.declared.Read.{Read}
 use Rattle.decoders.specs.Machine.{State, refuse, answer_of, machine, Machine, fed, fresh}
 use Rattle.decoders.specs.Range.{in_range}
-use Rattle.decoders.specs.Feeding.{tables, sizes_of, cleared, layout_sizes, begun, told, Out, out, out_of, Whole, whole, whole_of, read_once, read_strict, gate, closed, pushed, ended, finish, follow}
+use Rattle.decoders.specs.Feeding.{sizes_of, cleared, begun, told, Out, out, out_of, whole_of, read_once, read_strict, gate, closed, pushed, ended, finish, follow}
 use Rattle.decoders.specs.Needs.{Starts, Closes}
 use Rattle.decoders.proofs.Feeds.{fed_range}
 use Rattle.decoders.proofs.Ranges.{fresh_range, finish_range}

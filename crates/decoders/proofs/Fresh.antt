@@ -1,13 +1,12 @@
 -- From a fresh start the machine reads as document 01's layout does: answer, bytes taken and tables, wherever it stands.
-use Prim.Native.Nat.{ℕ, zero, suc, ◌+◌, ◌-◌, ◌<◌, ◌≤◌}
-use mathlib.Core.Path.{◌≡◌, refl, sym, ◌∙◌, ap, ap₂, subst}
-use mathlib.Core.Bool.{Bool, true, false, cond}
-use mathlib.Core.List.{List, [], ◌∷◌}
-use native.Mathlib.Nat.{zero-add}
+use Prim.Native.Nat.{ℕ}
+use mathlib.Core.Path.{◌≡◌, refl, ◌∙◌, ap, ap₂}
+use mathlib.Core.Bool.{true, cond}
+use mathlib.Core.List.{List}
 use native.Mathlib.Omega.{arith}
 use lib.Dec.{leb, ltb, eqb}
 use lib.ListN.{length, replicate, length-replicate}
-use borrow.Author.Tests.{eq-eqb, ne_eqb, le-leb, lt-leb, lt-ltb, le-ltb, eqb-true, eqb-false, leb-true, leb-false, ltb-true, ltb-false}
+use borrow.Author.Tests.{eq-eqb, ne_eqb, le-leb, lt-leb, eqb-true}
 use Rattle.layout.specs.Number.{Bytes}
 use Rattle.layout.specs.Layout as layout
 use Rattle.layout.specs.Layout.{Reading}
@@ -15,16 +14,13 @@ use Rattle.layout.specs.Transaction.{Head}
 use Rattle.layout.specs.Outcome as outcome
 use Rattle.layout.specs.Outcome.{Tables, laid, shown, reading_of}
 use Rattle.layout.proofs.Reading.{by_cases}
-use Rattle.decoders.specs.declared.Sizes.{Sizes}
-use Rattle.decoders.specs.Machine.{State, refuse, answer_of, head_of, machine, Machine, fed, entering, fresh}
+use Rattle.decoders.specs.Machine.{State, answer_of, Machine, fed, entering}
 use Rattle.decoders.specs.Range.{in_range}
-use Rattle.decoders.specs.Feeding.{tables, sizes_of, cleared, layout_sizes, begun, told, Out, out, closed, finish, follow}
-use Rattle.decoders.specs.Needs.{Closes}
+use Rattle.decoders.specs.Feeding.{tables, sizes_of, cleared, layout_sizes, begun, told, out, closed, finish, follow}
 use Rattle.decoders.proofs.Simulation.{Same, at_run}
 use Rattle.decoders.proofs.Walk.{fresh_at}
 use Rattle.decoders.proofs.Feeds.{Lengths, fed_lengths, fed_range}
-use Rattle.decoders.proofs.Ranges.{fresh_range, by_stage, finish_range}
-use Rattle.decoders.proofs.Closing.{range_closes, refused_closes}
+use Rattle.decoders.proofs.Ranges.{fresh_range, by_stage}
 
 -- ---- the tables are lent with any numbers; a fresh start zeroes them
 

@@ -1,13 +1,13 @@
 -- Gathering a part of a field at once is feeding its bytes one after another, from any state.
-use Prim.Native.Nat.{ℕ, zero, suc, ◌+◌, ◌-◌, ◌*◌, ◌^◌, ◌<◌, ◌≤◌, min}
+use Prim.Native.Nat.{ℕ, suc, ◌+◌, ◌*◌, ◌^◌, ◌<◌, ◌≤◌}
 use mathlib.Core.Path.{◌≡◌, refl, sym, ◌∙◌, ap, subst}
-use mathlib.Core.Bool.{Bool, true, false, cond}
-use mathlib.Core.List.{List, [], ◌∷◌, ◌++◌}
-use native.Mathlib.Nat.{pow-succ', mul-le-mul_right, add_assoc, pow-le-pow_right, lt_of_lt_of_le, zero-add, add-zero, mul-zero, mul_assoc, mul-add, add-mul, mul_comm, mul_left_comm}
+use mathlib.Core.Bool.{cond}
+use mathlib.Core.List.{List, [], ◌∷◌}
+use native.Mathlib.Nat.{pow-succ', mul-le-mul_right, pow-le-pow_right, add-zero, mul-zero, mul_assoc, mul-add, add-mul, mul_comm, mul_left_comm}
 use native.Mathlib.Numerals.{add-one}
 use native.Mathlib.Omega.{arith}
-use lib.Dec.{leb, ltb, eqb, lit<}
-use lib.ListN.{length, take, drop, get_or, drop_of_length-le}
+use lib.Dec.{eqb, lit<}
+use lib.ListN.{length, drop, get_or, drop_of_length-le}
 use lib.Seq.{drop-cons, take_all}
 use Rattle.layout.specs.Number.{Order, value, little, big}
 use Rattle.encode.proofs.Number.{weighed, value_bytes_lem}
@@ -15,7 +15,7 @@ use borrow.Author.Tests.{lt-leb, eq-eqb, ne_eqb}
 use Rattle.layout.specs.Outcome.{Tables}
 use Rattle.layout.proofs.Reading.{by_cases}
 use Rattle.decoders.specs.Machine.{OPAQUE, BIG, State, worth, worths, gather, gathered, machine, Machine, step, fed, entering, settle}
-use Rattle.decoders.specs.Needs.{ByteAt, Worthy, Gathers}
+use Rattle.decoders.specs.Needs.{ByteAt}
 
 -- ---- one byte more
 

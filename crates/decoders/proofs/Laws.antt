@@ -1,6 +1,6 @@
 -- What the functions' proofs cite: the machine's definitions at each test that the code makes.
 use Prim.Native.Nat.{ℕ, ◌+◌, ◌-◌, ◌<◌, ◌≤◌}
-use mathlib.Core.Path.{◌≡◌, refl, sym, ◌∙◌, ap, subst}
+use mathlib.Core.Path.{◌≡◌, sym, ◌∙◌, ap, subst}
 use mathlib.Core.List.{List}
 use lib.ListN.{set}
 use Rattle.layout.specs.Outcome.{Tables}
@@ -8,9 +8,7 @@ use Rattle.decoders.specs.declared.Entered.{Entered}
 use Rattle.decoders.specs.declared.Sizes.{Sizes}
 use Rattle.decoders.specs.Feeding.{tables}
 use Rattle.decoders.specs.Needs.{size_by, Storable, Enterable}
-use mathlib.Core.Bool.{Bool, true, false, cond}
 use native.Mathlib.Omega.{arith}
-use lib.Dec.{leb, ltb, eqb}
 use borrow.Author.Tests.{le-leb, lt-leb, lt-ltb, le-ltb, eq-eqb, ne_eqb}
 use Rattle.layout.specs.Transaction.{limit}
 use Rattle.decoders.specs.Machine.{State, field, with_field, refuse, finished, opened, number, compact, opaque, further, item_ends, set_index, set_items, set_left, next_input, next_output, witnesses_end, next_output_witness, next_input_witness, next_script_item, next_pegin_item, body_ends, stored, enter_by}

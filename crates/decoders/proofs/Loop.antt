@@ -1,10 +1,10 @@
 -- A whole piece, field after field: what the loop keeps.
-use Prim.Native.Nat.{ℕ, zero, suc, ◌+◌, ◌-◌, ◌<◌, ◌≤◌, min}
+use Prim.Native.Nat.{ℕ, ◌+◌, ◌-◌, ◌<◌, ◌≤◌, min}
 use mathlib.Core.Path.{◌≡◌, refl, sym, ◌∙◌, ap, subst}
 use mathlib.Core.Bool.{true}
-use mathlib.Core.List.{List, [], ◌∷◌, ◌++◌}
+use mathlib.Core.List.{List}
 use native.Mathlib.Omega.{arith}
-use lib.ListN.{length, take, drop, length-take, length-drop, take-append-drop, drop_of_length-le}
+use lib.ListN.{length, take, drop, length-drop, take-append-drop, drop_of_length-le}
 use lib.Seq.{take_all, drop-drop}
 use Rattle.layout.specs.Number.{Bytes}
 use Rattle.layout.specs.Outcome.{Tables}
@@ -13,7 +13,7 @@ use Rattle.decoders.specs.Machine.{State, machine, Machine, fed}
 use Rattle.decoders.specs.Range.{in_range}
 use Rattle.decoders.specs.Feeding.{sizes_of}
 use Rattle.decoders.specs.Needs.{Feeds, Starts, ours}
-use Rattle.decoders.proofs.Advance.{step_taken, step_have}
+use Rattle.decoders.proofs.Advance.{step_taken}
 use Rattle.decoders.proofs.Ranges.{range_open}
 use Rattle.decoders.proofs.Feeds.{Lengths, fed_range, fed_sizes, fed_lengths}
 use Rattle.decoders.proofs.Simulation.{fed_append, fed_ended}

@@ -17,7 +17,7 @@ use Rattle.decoders.specs.Machine as m
 use Rattle.decoders.specs.Machine.{FIRST, OPAQUE, LITTLE, State, settled, quiet, opened, compact_settled, length_settled, body_ends, body_entered, body_seen, body_opened, emptied, inputs_counted, outputs_counted, script_counted, pegin_counted, opaque_settled, next_input, next_output, next_input_witness, next_output_witness, next_script_item, next_pegin_item, witnesses_end}
 use Rattle.decoders.specs.Range.{size, least_width, greatest_width, own_bytes, in_range}
 use Rattle.decoders.proofs.Rows.{kinds, before, slack, scripts, dark_at, input_witnesses_read, output_witnesses_read, within}
-use Rattle.decoders.proofs.Ranges.{given, Numbers, Few, Stands, Placed, Witnessed, open_range, finished_range, refuse_range}
+use Rattle.decoders.proofs.Ranges.{Numbers, Few, Stands, Placed, Witnessed, open_range, finished_range, refuse_range}
 
 abbrev pub size_by : ℕ → Sizes → ℕ
 size_by t z = cond (eqb t 1) z.inputs (cond (eqb t 2) z.outputs z.items)

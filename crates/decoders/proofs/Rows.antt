@@ -5,7 +5,7 @@ use mathlib.Core.List.{List, [], ◌∷◌}
 use lib.Dec.{leb, eqb}
 use lib.ListN.{get_or}
 use Rattle.layout.specs.Transaction.{◌▸◌}
-use Rattle.decoders.specs.Stages.{VERSION, FLAG, INPUT_COUNT, SEQUENCE, INFLATION_KEYS, OUTPUT_COUNT, VALUE, NONCE, OUTPUT_SCRIPT, LOCKTIME, SCRIPT_ITEM, PEGIN_ITEM}
+use Rattle.decoders.specs.Stages.{FLAG, INPUT_COUNT, SEQUENCE, INFLATION_KEYS, OUTPUT_COUNT, VALUE, NONCE, OUTPUT_SCRIPT, LOCKTIME, SCRIPT_ITEM, PEGIN_ITEM}
 use Rattle.decoders.specs.Machine.{OPAQUE, State}
 use Rattle.decoders.specs.Range.{NUMBER, BYTE, HIDDEN, COUNT, BODY, AMOUNT, TOKEN, size}
 

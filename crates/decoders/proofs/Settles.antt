@@ -1,5 +1,5 @@
 -- Settling a whole field keeps the range, and what it enters fits its table: one law for each stage and form.
-use Prim.Native.Nat.{ℕ, zero, suc, ◌+◌, ◌-◌, ◌^◌, ◌<◌, ◌≤◌}
+use Prim.Native.Nat.{ℕ, suc, ◌-◌, ◌^◌, ◌<◌, ◌≤◌}
 use mathlib.Core.Path.{◌≡◌, refl, ap, subst}
 use mathlib.Core.Bool.{cond, Bool, true, false, ◌||◌}
 use native.Mathlib.Nat.{lt_of_lt_of_le, pow-le-pow_right}
@@ -7,7 +7,7 @@ use native.Mathlib.Omega.{arith}
 use lib.Dec.{leb, eqb, lit<, lit≤}
 use lib.ListN.{get_or}
 use borrow.Author.Tests.{leb-true, eqb-true}
-use Rattle.layout.specs.Transaction.{announced, least, vout, flags, flag_bit, all_ones, asset_prefix, nonce_prefix}
+use Rattle.layout.specs.Transaction.{announced, least, vout, flags, flag_bit, all_ones}
 use Rattle.layout.proofs.Reading.{by_cases}
 use Rattle.decoders.specs.declared.Field.{Field}
 use Rattle.decoders.specs.declared.Sizes.{Sizes}
@@ -17,11 +17,11 @@ use Rattle.decoders.specs.Stages.{LOCKTIME}
 use Rattle.decoders.specs.Machine as m
 use Rattle.confidential.specs.Width.{value_width, asset_width, nonce_width}
 use Rattle.decoders.specs.Machine.{FURTHER, FIRST, OPAQUE, LITTLE, BIG, State, settle, settle_by, first_settled, further_settled, little_settled, big_settled, opaque_settled, value_part, asset_part, nonce_part, amount_next, keys_next, null_keys_next, asset_next, value_next, nonce_next, sequence_next, locktime_next}
-use Rattle.decoders.specs.Range.{size, least_forms, greatest_forms, least_width, greatest_width, own_bytes, in_range}
+use Rattle.decoders.specs.Range.{least_forms, greatest_forms, least_width, greatest_width, own_bytes, in_range}
 use Rattle.decoders.proofs.Rows.{kinds, stacked, dark_at}
 use Rattle.decoders.proofs.Simulation.{st}
 use Rattle.decoders.proofs.Ranges.{From, from, ◌then◌, Numbers, Few, Stands, Ready, finished_range}
-use Rattle.decoders.proofs.Openings.{Fits, Ranged, Good, good, silent, tests, cond_ranged, cond_good, refused, Opens, opens, size_some, size_few, size_further, Behind, Ended, InputNext, next_input_lem, next_input_witness_lem, Counted, inputs_counted_lem, outputs_counted_lem, script_counted_lem, pegin_counted_lem, Body, body_counted, input_script, output_script, amount_proof_lem, keys_proof_lem, script_item, pegin_item, surjection_proof_lem, range_proof_lem}
+use Rattle.decoders.proofs.Openings.{Fits, Ranged, Good, good, silent, tests, cond_ranged, cond_good, refused, Opens, opens, size_some, size_few, size_further, Behind, next_input_lem, next_input_witness_lem, Counted, inputs_counted_lem, outputs_counted_lem, script_counted_lem, pegin_counted_lem, Body, body_counted, input_script, output_script, amount_proof_lem, keys_proof_lem, script_item, pegin_item, surjection_proof_lem, range_proof_lem}
 
 -- ---- a stage and a form at which a whole field settles well
 

@@ -1,16 +1,15 @@
 -- The machine does what a layout says, once a state stands at it: whatever bytes are fed, answer, count and tables are those of the
 -- layout's reading. Nothing here knows of a stage.
-use Prim.Native.Nat.{ℕ, zero, suc, ◌+◌, ◌-◌, ◌*◌, ◌^◌, ◌<◌, ◌≤◌}
-use mathlib.Core.Path.{◌≡◌, refl, sym, ◌∙◌, ap, ap₂, subst}
-use mathlib.Core.Bool.{Bool, true, false, cond}
+use Prim.Native.Nat.{ℕ, suc, ◌+◌, ◌*◌, ◌^◌, ◌<◌, ◌≤◌}
+use mathlib.Core.Path.{◌≡◌, refl, sym, ◌∙◌, ap, subst}
+use mathlib.Core.Bool.{cond}
 use mathlib.Core.List.{List, [], ◌∷◌, ◌++◌, append_assoc, append-nil}
-use native.Mathlib.Nat.{add_assoc, add-zero, zero-add, mul_comm}
-use native.Mathlib.Numerals.{add-one}
+use native.Mathlib.Nat.{add_assoc, mul_comm}
 use native.Mathlib.Omega.{arith}
-use lib.Dec.{leb, ltb, eqb}
-use lib.ListN.{length, take, drop, length-append, length-take, length-drop, take-append-drop}
+use lib.Dec.{eqb}
+use lib.ListN.{length, take, drop, length-append, take-append-drop}
 use lib.Seq.{length-take-le}
-use borrow.Author.Tests.{leb-true, leb-false, eqb-true, eqb-false, lt-leb, le-leb, eq-eqb, ne_eqb}
+use borrow.Author.Tests.{lt-leb, le-leb, eq-eqb, ne_eqb}
 use Rattle.layout.specs.Number.{Order, little, big, value, Bytes}
 use Rattle.layout.specs.Layout.{Layout, number, opaque, enter, refuse, accept, Answer, refused, more, Reading, reading, behind, noted, Entry, Hidden, run}
 use Rattle.layout.specs.Transaction.{Head}
@@ -22,8 +21,7 @@ use Rattle.decoders.specs.declared.Counts.{Counts}
 use Rattle.decoders.specs.declared.Spot.{Spot}
 use Rattle.decoders.specs.declared.Entered.{Entered}
 use Rattle.decoders.specs.declared.Settled.{Settled}
-use Rattle.decoders.specs.Machine as machine_specs
-use Rattle.decoders.specs.Machine.{OPAQUE, BIG, State, field, worth, gather, enter_by, Machine, machine, entering, step, fed, answer_of, head_of, settle, quiet, settled}
+use Rattle.decoders.specs.Machine.{OPAQUE, BIG, State, field, worth, gather, enter_by, Machine, machine, entering, step, fed, answer_of, settle, quiet, settled}
 
 -- ---- a fold
 

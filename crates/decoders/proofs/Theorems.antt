@@ -5,10 +5,9 @@ use mathlib.Core.Path.{◌≡◌, refl, sym, ◌∙◌, ap, ap₂, subst}
 use mathlib.Core.Bool.{Bool, true, false, cond, ◌&&◌}
 use mathlib.Core.List.{List, [], ◌∷◌, ◌++◌, append_assoc, append-nil}
 use native.Mathlib.Nat.{zero-add}
-use native.Mathlib.Numerals.{add-one}
 use native.Mathlib.Omega.{arith}
-use lib.Dec.{leb, ltb, eqb}
-use lib.ListN.{length, replicate, length-append}
+use lib.Dec.{leb, eqb}
+use lib.ListN.{length}
 use borrow.Author.Tests.{eq-eqb, ne_eqb, le-leb, lt-leb, eqb-true, eqb-false, leb-true, leb-false}
 use Rattle.layout.specs.Number.{Bytes}
 use Rattle.layout.specs.Layout as layout
@@ -20,15 +19,13 @@ use Rattle.layout.proofs.Theorems as of_layout
 use Rattle.decoders.specs.declared.Sizes.{Sizes}
 use Rattle.decoders.specs.declared.Answer.{Answer}
 use Rattle.decoders.specs.declared.Answer.TheVariants.{Finished, More, Refused}
-use Rattle.decoders.specs.declared.Fed.{Fed}
 use Rattle.decoders.specs.Stages.{FINISHED}
-use Rattle.decoders.specs.Machine.{State, refuse, answer_of, machine, Machine, fed, step, fresh, gather, entering, settle}
+use Rattle.decoders.specs.Machine.{State, answer_of, machine, Machine, fed, step, gather, entering}
 use Rattle.decoders.specs.Range.{in_range}
-use Rattle.decoders.specs.Feeding.{tables, sizes_of, cleared, layout_sizes, begun, told, told_number, told_place, told_head, Out, out, out_of, gate, closed, pushed, ended, finish}
-use Rattle.decoders.specs.Needs.{Starts}
+use Rattle.decoders.specs.Feeding.{sizes_of, cleared, layout_sizes, begun, told, told_number, told_place, told_head, Out, out, gate, closed, pushed, ended, finish}
 use Rattle.decoders.proofs.Simulation.{fed_append, fed_ended}
 use Rattle.decoders.proofs.Feeds.{Lengths, fed_range, fed_sizes, fed_lengths, fed_taken, settle_taken}
-use Rattle.decoders.proofs.Ranges.{fresh_range, finish_range, by_stage}
+use Rattle.decoders.proofs.Ranges.{fresh_range, by_stage}
 use Rattle.decoders.proofs.Fresh.{reading, after, reads, after_range, after_cleared, cleared_lengths, zero_lengths, closed_shows, answer_finish, finish_taken}
 use Rattle.decoders.proofs.Entries.{gate_starts, finish_closes}
 

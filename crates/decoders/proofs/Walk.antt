@@ -3,16 +3,16 @@ use Prim.Native.Nat.{ℕ, zero, suc, ◌+◌, ◌-◌, ◌*◌, ◌/◌, ◌%◌
 use mathlib.Core.Path.{◌≡◌, refl, sym, ◌∙◌, ap, ap₂, subst}
 use mathlib.Core.Bool.{Bool, true, false, cond, ◌&&◌, ◌||◌, true≢false}
 use mathlib.Core.List.{List, [], ◌∷◌}
-use native.Mathlib.Nat.{add_assoc, add-zero, zero-add}
+use native.Mathlib.Nat.{add-zero, zero-add}
 use native.Mathlib.Numerals.{add-one}
 use native.Mathlib.Omega.{arith}
-use lib.Dec.{leb, ltb, eqb, lit<, lit≤}
+use lib.Dec.{leb, eqb, lit<, lit≤}
 use lib.ListN.{set}
 use lib.Seq.{sets}
-use borrow.Author.Tests.{leb-true, leb-false, eqb-true, eqb-false, lt-ltb, le-ltb, ne_eqb, eq-eqb}
+use borrow.Author.Tests.{eqb-true, eqb-false, lt-ltb, le-ltb}
 use Rattle.layout.specs.Number.{Order, little, big, value}
-use Rattle.layout.specs.Layout.{Layout, number, opaque, enter, refuse, accept, Answer, refused, more, Entry, Table, input, output, item, Hidden, txid, blinding_nonce, entropy, asset_part, nonce_part, commitment_part, script_body, proof_body, item_body}
-use Rattle.layout.specs.Transaction.{Head, Room, limit, entry, within, further_at, number_at, opaque_at, announced, least, compact_at, count_at, body_at, value_at, prefixed_at, each, alone, all_ones, flag_bit, vout, flags, asset_prefix, nonce_prefix, Seen, seen, issuance_at, input_at, output_at, item_at, stack_at, input_witness_at, output_witness_at, transaction}
+use Rattle.layout.specs.Layout.{Layout, opaque, enter, refuse, accept, Entry, input, output, item, Hidden, txid, blinding_nonce, entropy, asset_part, nonce_part, commitment_part, script_body, proof_body, item_body}
+use Rattle.layout.specs.Transaction.{Head, limit, entry, within, further_at, opaque_at, announced, least, compact_at, count_at, body_at, value_at, prefixed_at, each, alone, flag_bit, vout, flags, asset_prefix, nonce_prefix, Seen, seen, issuance_at, input_at, output_at, item_at, stack_at, input_witness_at, output_witness_at, transaction}
 use Rattle.layout.specs.Outcome as layout_outcome
 use Rattle.layout.specs.Outcome.{Tables, lay, room_of}
 use Rattle.layout.proofs.Reading.{by_cases}

@@ -1,6 +1,6 @@
 -- The reader's state machine, as pure functions on its state. It says what every state does, forged ones too; proofs/ tie it to
 -- document 01's reading. `settle` is what happens when a field's last byte is taken; its bytes are counted in `taken` already.
-use Rattle.std.specs.Prelude.{ℕ, zero, suc, ◌+◌, ◌-◌, ◌*◌, ◌/◌, ◌%◌, ◌^◌, ◌≤◌, min, Bool, true, false, cond, ◌&&◌, ◌||◌, List, [], ◌∷◌, leb, ltb, eqb, set}
+use Rattle.std.specs.Prelude.{ℕ, ◌+◌, ◌-◌, ◌*◌, ◌/◌, ◌%◌, ◌^◌, ◌≤◌, min, cond, ◌||◌, List, [], ◌∷◌, leb, ltb, eqb, set}
 use Rattle.layout.specs.Layout.{Answer, refused, more}
 use Rattle.layout.specs.Outcome.{Tables}
 use Rattle.layout.specs.Transaction.{Head, limit, announced, least, vout, flags, flag_bit, ◌▸◌}

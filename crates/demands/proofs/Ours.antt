@@ -3,12 +3,10 @@ use Prim.Native.Nat.{ℕ, zero, suc, ◌+◌, ◌-◌, ◌≤◌}
 use mathlib.Core.Path.{◌≡◌, refl, sym, ◌∙◌, ap, subst}
 use mathlib.Core.Bool.{Bool, true, false, cond, ◌&&◌, true≢false}
 use mathlib.Core.List.{List, [], ◌∷◌, ◌++◌}
-use mathlib.Core.Logic.{◌↔◌}
 use native.Mathlib.Omega.{arith}
 use lib.Dec.{leb, eqb}
 use lib.ListN.{length, set, length-set}
 use borrow.Author.Tests.{eq-eqb, ne_eqb, lt-leb, eqb-true, eqb-false}
-use Rattle.layout.specs.Number.{Bytes}
 use Rattle.layout.specs.Layout as layout
 use Rattle.layout.specs.Transaction.{Head, limit}
 use Rattle.layout.specs.Outcome as outcome

@@ -1,6 +1,6 @@
 -- Laws that judging cites: the records of a table one by one, and each loop's step.
 use Prim.Native.Nat.{ℕ, zero, suc, ◌+◌, ◌-◌, ◌*◌, ◌^◌, ◌<◌, ◌≤◌}
-use mathlib.Core.Path.{◌≡◌, refl, sym, ◌∙◌, ap, subst}
+use mathlib.Core.Path.{◌≡◌, refl, sym, ◌∙◌, ap}
 use mathlib.Core.Bool.{Bool, true, false, cond, not, ◌&&◌, ◌||◌, and-eq-true_iff}
 use mathlib.Core.Logic.{◌↔◌}
 use mathlib.Core.List.{List, [], ◌∷◌}
@@ -16,7 +16,7 @@ use Rattle.layout.specs.Transaction.{Head}
 use Rattle.layout.specs.Outcome.{Tables}
 use Rattle.layout.specs.Contents.{all, confused}
 use Rattle.layout.specs.Records.{sum}
-use Rattle.layout.specs.Writing.{records, Fault, passes, fault, ◌also◌, unless, value_width, zeros₇, zeros₄, input_witness_rule, input_rule, input_fault, input_faults, rule_faults, null_issuance, record_items, input_records, output_records, item_records, output_rule, item_rule, empty_input, empty_output, held, table_faults, ◌!◌}
+use Rattle.layout.specs.Writing.{records, Fault, passes, fault, ◌also◌, unless, value_width, zeros₇, input_witness_rule, input_rule, input_fault, input_faults, rule_faults, null_issuance, record_items, input_records, output_records, item_records, output_rule, item_rule, empty_input, empty_output, held, table_faults, ◌!◌}
 use Rattle.encoders.specs.declared.Written.{Written}
 use Rattle.encoders.specs.declared.Written.TheVariants.{Done, Refused}
 use Rattle.encoders.specs.Answers.{answer}

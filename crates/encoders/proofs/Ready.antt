@@ -1,21 +1,21 @@
 -- What the judging of pass 1 is worth to pass 2: where no fault is found, every record is as it must be to be put.
 use Prim.Native.Nat.{ℕ, zero, suc, ◌+◌, ◌*◌, ◌/◌, ◌≤◌, ◌<◌}
-use mathlib.Core.Path.{◌≡◌, refl, sym, ◌∙◌, ap, ap₂, subst}
-use mathlib.Core.Bool.{Bool, true, false, cond, not, ◌&&◌, ◌||◌}
-use mathlib.Core.List.{List, [], ◌∷◌, ◌++◌, map}
+use mathlib.Core.Path.{◌≡◌, refl, sym, ◌∙◌, ap, subst}
+use mathlib.Core.Bool.{Bool, true, false, not, ◌&&◌, ◌||◌}
+use mathlib.Core.List.{List, [], ◌∷◌}
 use native.Mathlib.Omega.{arith}
 use native.Mathlib.Nat.{mul-zero, mul-suc, mul-le-mul_left}
 use lib.Dec.{leb, eqb}
 use lib.ListN.{length, take, drop, length-drop}
 use lib.Seq.{drop-drop, length-take-le}
-use borrow.Author.Tests.{leb-true, eqb-true, not-true, le-leb, lt-leb, eq-eqb, ne_eqb}
+use borrow.Author.Tests.{leb-true, eqb-true, not-true, le-leb, lt-leb, ne_eqb}
 use Rattle.layout.proofs.Reading.{by_cases}
 use Rattle.layout.specs.Transaction.{Head, asset_prefix, nonce_prefix}
 use Rattle.layout.specs.Outcome.{Tables}
 use Rattle.layout.specs.Contents.{Every, confused}
 use Rattle.layout.specs.Records.{sum}
 use Rattle.layout.specs.Writing.{◌!◌, records, value_width, issues, Fault, passes, fault, ◌also◌, unless, value_rule, token_rule, issuance_rule, input_witness_rule, input_rule, output_witness_rule, output_rule, item_rule, input_fault, input_faults, rule_faults, record_items, input_records, output_records, item_records, table_faults}
-use Rattle.encoders.specs.Puts.{Prefixed, IssuanceLies, IssuanceReady, InputReady, OutputReady, OutputWitnessReady, ItemReady, Rows, StackReady, InputWitnessReady}
+use Rattle.encoders.specs.Puts.{Prefixed, IssuanceLies, InputReady, OutputReady, OutputWitnessReady, ItemReady, Rows, StackReady, InputWitnessReady}
 use Rattle.encoders.proofs.Rows.{further}
 
 -- ---- tests taken apart

@@ -9,7 +9,7 @@ use lib.ListN.{length, take, drop, length-map, length-drop, drop_of_length-le}
 use lib.Seq.{drop-drop, take_all}
 use Rattle.layout.specs.Contents.{flat, compact_bytes, body_bytes, list_bytes}
 use Rattle.layout.specs.Writing.{records, item_of}
-use Rattle.encoders.specs.Puts.{Room, Puts, Rows, StackReady, stack_of, item_bytes}
+use Rattle.encoders.specs.Puts.{Room, Puts, Rows, stack_of, item_bytes}
 use Rattle.encoders.proofs.Putting.{Left, start, as_bytes, fits, step, ended, put_length}
 
 pub records_length : (w n : ℕ) (t : List ℕ) → length (records w n t) ≡ n

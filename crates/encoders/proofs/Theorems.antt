@@ -10,7 +10,7 @@
 --     refused, short    what `write` refuses: the same, and 14
 --     fee               `is_fee` says yes exactly of a script length 0
 --     position-unread   what `write` leaves is the same, whatever stands as position of a null field or of an explicit value
-use Prim.Native.Nat.{ℕ, ◌+◌, ◌*◌, ◌<◌, ◌≤◌, ◌^◌}
+use Prim.Native.Nat.{ℕ, ◌+◌, ◌*◌, ◌<◌, ◌≤◌}
 use mathlib.Core.Path.{◌≡◌, refl, sym, ◌∙◌, ap, subst}
 use mathlib.Core.Logic.{◌↔◌, ◌≢◌}
 use mathlib.Core.Bool.{Bool, true}
@@ -20,7 +20,7 @@ use lib.ListN.{length, take, get_or, set}
 use Rattle.layout.specs.Number.{Bytes}
 use Rattle.layout.specs.Layout as layout
 use Rattle.layout.specs.Transaction as transaction
-use Rattle.layout.specs.Outcome.{Tables, change, Outcome, partial, at_once, reading_of, outcome, ended, finish, shown, laid, zeros}
+use Rattle.layout.specs.Outcome.{Tables, change, Outcome, partial, at_once, reading_of, outcome, finish}
 use Rattle.layout.specs.Writing.{faults, passes, written_length, Verdict, wrote, verdict_number, verdict_place, verdict_length, over, contents_of, written_bytes, writing, is_fee, ◌!◌}
 use Rattle.layout.specs.Writing as layout_written
 use Rattle.layout.specs.Layout.{output}
@@ -28,7 +28,7 @@ use Rattle.layout.specs.Contents.{Contents, contents_bytes, Allowed}
 use Rattle.layout.specs.Shows.{Shows}
 use Rattle.layout.specs.Unwritten.{WriteRefusal}
 use Rattle.layout.proofs.Theorems.{finish_finished}
-use Rattle.layout.proofs.RoundTrips.{read_then_write, Lent, Holds, lengthened, ReadsBack, write_then_read, records_agree, Wrote, written_tail, passes_of}
+use Rattle.layout.proofs.RoundTrips.{read_then_write, Lent, Holds, lengthened, write_then_read, records_agree, written_tail, passes_of}
 use Rattle.layout.proofs.Columns.{RecordsAgree, BodiesSame}
 use Rattle.layout.proofs.Bodies.{bodies_same}
 use Rattle.layout.proofs.Accepts.{Longer, writes_exactly, shown_written, two_shown}

@@ -1,9 +1,9 @@
 -- A whole transaction's bytes, as the code puts them.
 use Prim.Native.Nat.{ℕ, zero, suc, ◌+◌, ◌*◌, ◌≤◌}
 use mathlib.Core.Path.{◌≡◌, refl, sym, ◌∙◌, ap, ap₂, subst}
-use mathlib.Core.Bool.{Bool, true, false, cond}
+use mathlib.Core.Bool.{cond}
 use mathlib.Core.List.{List, [], ◌∷◌, ◌++◌, map, append_assoc}
-use mathlib.Core.Option.{Option, none, some}
+use mathlib.Core.Option.{none, some}
 use native.Mathlib.Omega.{arith}
 use native.Mathlib.Nat.{mul-zero}
 use lib.Dec.{eqb}
@@ -15,7 +15,7 @@ use Rattle.layout.specs.Transaction.{Head}
 use Rattle.layout.specs.Outcome.{Tables}
 use Rattle.layout.specs.Contents.{Every, Witnesses, flat, compact_bytes, list_bytes, input_bytes, output_bytes, input_witness_bytes, output_witness_bytes, flag_of, witnesses_bytes, contents_bytes}
 use Rattle.layout.specs.Writing.{◌!◌, records, item_of, input_of, output_of, input_witness_of, output_witness_of, input_records, output_records, item_records, witnesses_of, contents_of, record_items, written_bytes, over}
-use Rattle.encoders.specs.Puts.{Room, Puts, input_row_bytes, output_row_bytes, output_witness_row_bytes, stack_of, witness_in, witness_bytes, Rows, InputReady, OutputReady, Passed, WitnessesReady, witnesses_put}
+use Rattle.encoders.specs.Puts.{Room, Puts, input_row_bytes, output_row_bytes, stack_of, witness_in, witness_bytes, Rows, InputReady, OutputReady, Passed, WitnessesReady, witnesses_put}
 use Rattle.encoders.proofs.Putting.{Left, starts, put_length}
 use Rattle.encoders.proofs.Rows.{further, flat_map, list_bytes_lem}
 use Rattle.encoders.proofs.Ready.{Judged, judged_within, Passing, passing, inputs_ready, outputs_ready, witnesses_ready, output_witnesses_ready}

@@ -1,15 +1,15 @@
 -- Laws of the written length: widths from a record's numbers, sums that stop above the limit, and that they are the length of what is
 -- written.
-use Prim.Native.Nat.{ℕ, zero, suc, ◌+◌, ◌-◌, ◌*◌, ◌/◌, ◌^◌, ◌<◌, ◌≤◌, min}
-use mathlib.Core.Path.{◌≡◌, refl, sym, ◌∙◌, ap, subst}
-use mathlib.Core.Bool.{Bool, true, false, cond, not, ◌&&◌, ◌||◌, and-eq-true_iff}
-use mathlib.Core.List.{List, [], ◌∷◌, ◌++◌, map, append_assoc}
-use mathlib.Core.Option.{Option, none, some}
-use native.Mathlib.Nat.{zero-add, add-zero, add_assoc}
+use Prim.Native.Nat.{ℕ, zero, suc, ◌+◌, ◌*◌, ◌/◌, ◌^◌, ◌<◌, ◌≤◌}
+use mathlib.Core.Path.{◌≡◌, refl, sym, ◌∙◌, ap}
+use mathlib.Core.Bool.{Bool, true, false, cond, and-eq-true_iff}
+use mathlib.Core.List.{List, [], ◌∷◌, ◌++◌, map}
+use mathlib.Core.Option.{none, some}
+use native.Mathlib.Nat.{zero-add, add_assoc}
 use native.Mathlib.Omega.{arith}
 use lib.Dec.{leb, eqb}
-use lib.ListN.{length, take, drop, get_or, length-append, length-take, length-drop, length-map, take-append-drop, drop_of_length-le}
-use lib.Seq.{drop-drop, length-take-le, drop-length}
+use lib.ListN.{length, take, drop, length-append, length-take, length-drop, length-map, take-append-drop, drop_of_length-le}
+use lib.Seq.{drop-drop}
 use borrow.Author.Tests.{leb-true, le-leb, lt-leb, eqb-true, eqb-false, eq-eqb, ne_eqb}
 use Rattle.layout.proofs.Reading.{by_cases}
 use Rattle.layout.specs.Number.{Order, little, big, bytes_of}
@@ -17,7 +17,7 @@ use Rattle.layout.specs.Transaction.{Head, limit}
 use Rattle.layout.specs.Outcome.{Tables}
 use Rattle.layout.specs.Contents.{Contents, compact_bytes, flat, body_bytes, list_bytes, value_bytes, token_bytes, issuance_bytes, input_bytes, output_bytes, input_witness_bytes, output_witness_bytes, witnesses_bytes, contents_bytes}
 use Rattle.layout.specs.Records.{sum}
-use Rattle.layout.specs.Writing.{records, body, value_of, token_of, issuance_of, issues, input_of, output_of, item_of, input_witness_of, output_witness_of, witnesses_of, contents_of, input_records, output_records, item_records, Fault, passes, fault, ◌also◌, unless, lies, value_width, value_rule, issuance_rule, input_witness_rule, input_rule, token_rule, output_witness_rule, output_rule, item_rule, input_fault, input_faults, rule_faults, record_items, held, table_faults, written_bytes, faults, written_length, zeros₇, ◌!◌}
+use Rattle.layout.specs.Writing.{records, body, value_of, token_of, issuance_of, issues, input_of, output_of, item_of, input_witness_of, output_witness_of, witnesses_of, contents_of, input_records, output_records, item_records, Fault, passes, ◌also◌, unless, value_width, issuance_rule, input_witness_rule, input_rule, token_rule, output_witness_rule, output_rule, item_rule, input_fault, input_faults, rule_faults, record_items, held, table_faults, written_bytes, faults, written_length, zeros₇, ◌!◌}
 use Rattle.encoders.specs.declared.Written.{Written}
 use Rattle.encoders.specs.declared.Written.TheVariants.{Done, Refused}
 use Rattle.encoders.specs.Answers.{answer, told}

@@ -1,19 +1,18 @@
 -- What `write` does with the answer of pass 1.
 use Prim.Native.Nat.{ℕ, ◌<◌, ◌≤◌}
-use mathlib.Core.Path.{◌≡◌, refl, sym, ◌∙◌, ap, subst}
+use mathlib.Core.Path.{◌≡◌, sym, ◌∙◌, ap, subst}
 use mathlib.Core.List.{List}
 use native.Mathlib.Omega.{arith}
 use lib.ListN.{length}
 use Rattle.layout.specs.Transaction.{Head, limit}
 use Rattle.layout.specs.Outcome.{Tables}
-use Rattle.layout.specs.Writing.{Fault, passes, table_faults, faults, unless, written_bytes, Verdict, wrote, unwritten, verdict, over, written_length, writing}
-use Rattle.layout.specs.Writing as layout
+use Rattle.layout.specs.Writing.{table_faults, faults, unless, written_bytes, Verdict, wrote, unwritten, over, written_length, writing}
 use Rattle.layout.proofs.Judging.{also_split}
-use Rattle.layout.proofs.RoundTrips.{LengthIs, length_is, refused_alike, passes_of}
+use Rattle.layout.proofs.RoundTrips.{length_is, refused_alike, passes_of}
 use lib.Dec.{leb}
 use Rattle.encoders.specs.declared.Written.{Written}
 use Rattle.encoders.specs.declared.Written.TheVariants.{Done, Refused}
-use Rattle.encoders.specs.Answers.{told, Out, out_of, told_out}
+use Rattle.encoders.specs.Answers.{told, out_of, told_out}
 use Rattle.encoders.specs.Puts.{Passed}
 
 pub wrote_of : (v : Verdict) (n : ℕ) → told v ≡ Done n → v ≡ wrote n

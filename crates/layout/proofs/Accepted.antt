@@ -11,7 +11,7 @@ use lib.Seq.{length-take-le, get_or-drop}
 use borrow.Author.Tests.{leb-true, leb-false, le-leb, eqb-true, eqb-false}
 use Rattle.layout.specs.Number.{Bytes}
 use Rattle.layout.specs.Transaction.{Head, asset_prefix, nonce_prefix}
-use Rattle.layout.specs.Outcome.{Tables, width}
+use Rattle.layout.specs.Outcome.{Tables}
 use Rattle.layout.specs.Contents.{Contents, flag_of, Every, Fixed, ValueAllowed, TokenAllowed, is_null, IssuanceAllowed, confused, Flagged, InputAllowed, OutputAllowed, InputWitnessAllowed, OutputWitnessAllowed, input_empty, output_empty, all, WitnessesAllowed, MaybeAllowed}
 use Rattle.layout.specs.Records.{items_of, sum, item_count}
 use Rattle.layout.specs.Writing.{records, body, value_of, token_of, value_width, issuance_of, issues, input_of, output_of, item_of, input_witness_of, output_witness_of, input_records, output_records, item_records, witnesses_of, contents_of, passes, ◌also◌, unless, ◌!◌, lies, value_rule, zeros₄, zeros₇, issuance_rule, input_witness_rule, input_rule, token_rule, output_witness_rule, output_rule, item_rule, null_issuance, input_fault, record_items, input_faults, empty_input, empty_output, held, table_faults}

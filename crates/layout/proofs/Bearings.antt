@@ -12,7 +12,7 @@ use lib.ListN.{length, get_or, length-map, length-replicate, get_or-map}
 use borrow.Author.Tests.{ltb-true, lt-ltb}
 use Rattle.layout.specs.Number.{little, big, bytes_of, Bytes}
 use Rattle.layout.specs.Layout.{Entry, hides}
-use Rattle.layout.specs.Transaction.{Room, entry, transaction}
+use Rattle.layout.specs.Transaction.{Room, transaction}
 use Rattle.layout.specs.Outcome.{Sizes, room_of, reading_of, partial, Bearing}
 use Rattle.layout.specs.Contents.{Value, null, explicit, commitment, Token, absent, present, Issuance, Input, Output, InputWitness, OutputWitness, Witnesses, Contents, compact_bytes, flat, body_bytes, list_bytes, value_bytes, token_bytes, issuance_bytes, raw_vout, input_bytes, output_bytes, input_witness_bytes, output_witness_bytes, flag_of, witnesses_bytes, contents_bytes, Every, ValueAllowed, TokenAllowed, Flagged}
 use Rattle.layout.specs.Fields.{Short, InputFormed, OutputFormed, InputWitnessFormed, OutputWitnessFormed, MaybeFormed, Formed}
@@ -20,7 +20,7 @@ use Rattle.layout.specs.Outline.{blank, token_outline, value_outline, issuance_o
 use Rattle.layout.specs.Beginnings.{Starts}
 use Rattle.layout.proofs.Number.{below, bytes_bytes}
 use Rattle.layout.proofs.Compact.{forms}
-use Rattle.layout.proofs.Trace.{Event, shown, hidden, enters, looked, passed, entering, trace, looks, looks_taken, looks_at, looks_both, looks_first}
+use Rattle.layout.proofs.Trace.{Event, shown, enters, looked, passed, entering, trace, looks, looks_taken, looks_at, looks_both, looks_first}
 use Rattle.layout.proofs.Codes.{events_all}
 use Rattle.layout.proofs.Parts.{prefix_small, Listing, asset_listing, nonce_listing, body_events, value_events, token_events, amount_note, amount_halves, keys_note, keys_halves, issued_events, script_note, input_events, out_note, output_events, item_note, item_events, stack_events, in_note, pegin_note, input_witness_events, output_witness_events}
 use Rattle.layout.proofs.Whole.{input_witnesses_events, tail_events, whole_events}

@@ -14,7 +14,7 @@ use lib.ListN.{length, take, drop, length-append, take-append-drop}
 use lib.Seq.{take_at, drop_at, length-take-le, get_or-append-add, take-append-le, take-append-add}
 use borrow.Author.Tests.{leb-true, leb-false, le-leb}
 use Rattle.layout.specs.Number.{Order, value, bytes_of, Bytes}
-use Rattle.layout.specs.Layout.{Layout, number, opaque, enter, refuse, Answer, finished, more, refused, Reading, reading, behind, Entry, Hidden, run}
+use Rattle.layout.specs.Layout.{Layout, number, opaque, enter, refuse, Answer, finished, refused, Reading, reading, behind, Entry, Hidden, run}
 use Rattle.layout.specs.Transaction.{Head, limit, within, further_at, opaque_at, count_at, body_at, value_at, prefixed_at, issuance_at, asset_prefix, nonce_prefix, each, alone}
 use Rattle.layout.specs.Contents.{Fixed, Every, flat, compact_bytes, list_bytes}
 use Rattle.layout.specs.Fields.{Field, field, fixed, fields_each, limited}

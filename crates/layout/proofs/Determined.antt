@@ -18,7 +18,7 @@ use Rattle.layout.specs.Outcome.{Sizes, Outcome, room_of, zeros, laid, shown, ou
 use Rattle.layout.specs.Contents.{Contents, contents_bytes, compact_bytes}
 use Rattle.layout.specs.Fields.{Formed}
 use Rattle.layout.specs.Moments.{tables_by}
-use Rattle.layout.specs.Sites.{What, Site, sites_of, compact, Fault, not_shortest, too_many, not_listed, null_issuance, Among}
+use Rattle.layout.specs.Sites.{What, Site, sites_of, compact, Fault, not_shortest, too_many, not_listed, null_issuance}
 use Rattle.layout.specs.Beginnings.{ending, end_of, Starts, fault_by, FaultIn, seven_of, Plain, Known, Told}
 use Rattle.layout.specs.Beginnings as told
 use Rattle.layout.proofs.Number.{length_bytes, bytes_take}

@@ -13,7 +13,7 @@ use Rattle.layout.specs.Transaction.{entry}
 use Rattle.layout.specs.Outcome.{Sizes, room_of, zeros, laid}
 use Rattle.layout.specs.Contents.{Value, null, explicit, commitment, Issuance, Input, Output, InputWitness, OutputWitness, Witnesses, Contents, flat, body_bytes, list_bytes, value_bytes, token_bytes, input_bytes, output_bytes, input_witness_bytes, output_witness_bytes, Every}
 use Rattle.layout.proofs.Forming.{Matches}
-use Rattle.layout.specs.Records.{items_of, sum, item_count, Fits, body_columns, value_prefix, high, low, token_prefix, issuance_columns, input_columns, input_witness_columns, output_columns, output_witness_columns, placed, placed_witnesses, stack_records, witness_items, witnesses_items, beside, inputs_at, outputs_at, witnesses_at, input_witness_records, output_witness_records, all_items, table, tables_of}
+use Rattle.layout.specs.Records.{items_of, sum, item_count, Fits, body_columns, value_prefix, high, low, token_prefix, issuance_columns, input_columns, input_witness_columns, output_columns, output_witness_columns, placed, placed_witnesses, stack_records, witness_items, witnesses_items, beside, inputs_at, outputs_at, witnesses_at, input_witness_records, output_witness_records, all_items, tables_of}
 use Rattle.layout.specs.Moments.{counted, body_moments, issuance_moments, input_moments, input_witness_moments, output_moments, output_witness_moments, stack_moments, witness_item_moments, witnesses_item_moments, all_input_witness_moments, all_output_witness_moments, all_item_moments, moments_of, kept, kept_in}
 use Rattle.layout.proofs.Parts.{amount_note, amount_halves, keys_note, keys_halves, out_note}
 use Rattle.layout.proofs.Whole.{whole_log}

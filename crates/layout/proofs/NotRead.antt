@@ -13,7 +13,7 @@ use borrow.Author.Tests.{leb-false, eqb-false}
 use Rattle.layout.specs.Layout.{input, output, item}
 use Rattle.layout.specs.Transaction.{Head, limit, asset_prefix, nonce_prefix}
 use Rattle.layout.specs.Outcome.{Tables, width, change}
-use Rattle.layout.specs.Contents.{Output, Contents, contents_bytes, all}
+use Rattle.layout.specs.Contents.{Contents, contents_bytes, all}
 use Rattle.layout.specs.Records.{sum}
 use Rattle.layout.specs.Writing.{◌!◌, records, body, value_of, token_of, lies, value_rule, token_rule, output_witness_rule, input_records, output_records, item_records, held, contents_of, input_of, output_of, item_of, input_witness_of, output_witness_of, ◌also◌, unless, input_faults, rule_faults, output_rule, item_rule, record_items, empty_input, empty_output, table_faults, faults, verdict, touched, writing}
 use Rattle.layout.proofs.Reading.{by_cases}

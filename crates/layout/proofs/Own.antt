@@ -5,7 +5,7 @@ use mathlib.Core.List.{List, [], ◌∷◌, ◌++◌}
 use mathlib.Core.Option.{Option, none, some}
 use native.Mathlib.Omega.{arith}
 use lib.ListN.{length, get_or, replicate, length-append, length-replicate}
-use Rattle.layout.specs.Transaction.{Head, asset_prefix, nonce_prefix}
+use Rattle.layout.specs.Transaction.{Head}
 use Rattle.layout.specs.Outcome.{Tables, Sizes, room_of}
 use Rattle.layout.specs.Contents.{Value, null, explicit, commitment, Token, absent, present, Issuance, Input, Output, InputWitness, OutputWitness, Witnesses, Contents, compact_bytes, flat, body_bytes, list_bytes, value_bytes, token_bytes, issuance_bytes, input_bytes, output_bytes, input_witness_bytes, output_witness_bytes, witnesses_bytes, Every, Flagged, InputAllowed, OutputAllowed, MaybeAllowed}
 use Rattle.layout.specs.Records.{items_of, item_count, head_of, Fits, body_columns, issuance_columns, input_columns, input_witness_columns, output_columns, output_witness_columns, placed, placed_witnesses, stack_records, witness_items, witnesses_items, beside, inputs_at, outputs_at, witnesses_at, input_witness_records, output_witness_records, all_items, table, tables_of}

@@ -1,7 +1,7 @@
 -- Every part of 01's layout codes its contents.
 use Prim.Native.Nat.{ℕ, suc, ◌+◌, ◌-◌, ◌/◌, ◌%◌, ◌^◌, ◌<◌, ◌≤◌}
 use mathlib.Core.Path.{◌≡◌, refl, sym, ◌∙◌, ap, ap₂, subst}
-use mathlib.Core.Bool.{Bool, true, false, cond, not, ◌&&◌, ◌||◌}
+use mathlib.Core.Bool.{Bool, true, false, cond, ◌&&◌, ◌||◌}
 use mathlib.Core.List.{List, [], ◌∷◌, ◌++◌, append_assoc}
 use mathlib.Core.Option.{Option, none, some}
 use native.Mathlib.Omega.{arith}
@@ -9,8 +9,8 @@ use lib.Dec.{leb, eqb, lit<}
 use lib.ListN.{length, take, drop, length-append, take-append-drop}
 use lib.Seq.{length-take-le, append_snoc}
 use borrow.Author.Tests.{leb-true, leb-false, le-leb, lt-leb, eqb-true}
-use Rattle.layout.specs.Number.{little, big, value, bytes_of, Bytes}
-use Rattle.layout.specs.Layout.{Layout, number, opaque, enter, refuse, Reading, reading, behind, noted, Entry, input, output, item, Hidden, txid, blinding_nonce, entropy, asset_part, nonce_part, commitment_part, script_body, proof_body, item_body, run}
+use Rattle.layout.specs.Number.{little, big, bytes_of, Bytes}
+use Rattle.layout.specs.Layout.{Layout, opaque, enter, refuse, Reading, reading, behind, noted, Entry, input, output, item, Hidden, txid, blinding_nonce, entropy, asset_part, nonce_part, commitment_part, script_body, proof_body, item_body, run}
 use Rattle.layout.specs.Transaction.{Head, limit, entry, within, further_at, number_at, opaque_at, announced, least, compact_at, count_at, body_at, value_at, prefixed_at, flag_bit, vout, flags, asset_prefix, nonce_prefix, Seen, seen, issuance_at, input_at, output_at, item_at, stack_at, input_witness_at, output_witness_at}
 use Rattle.layout.specs.Contents.{Value, null, explicit, commitment, Token, absent, present, Issuance, Input, Output, InputWitness, OutputWitness, compact_bytes, flat, body_bytes, list_bytes, value_bytes, token_bytes, issuance_bytes, raw_vout, input_bytes, output_bytes, input_witness_bytes, output_witness_bytes, Every, Fixed, ValueAllowed, TokenAllowed, is_null, IssuanceAllowed, Flagged}
 use Rattle.layout.specs.Fields.{Short, InputFormed, OutputFormed, InputWitnessFormed, OutputWitnessFormed, Field, field, fixed, compact_fields, body_fields, value_fields, token_fields, list_fields, issuance_fields, input_fields, output_fields, input_witness_fields, output_witness_fields, limited}

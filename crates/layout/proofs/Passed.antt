@@ -1,7 +1,7 @@
 -- What passes the writer's rules shows a transaction: record by record, by its numbers and the bytes at its positions.
 use Prim.Native.Nat.{ℕ, ◌+◌, ◌/◌, ◌^◌, ◌<◌, ◌≤◌}
 use mathlib.Core.Path.{◌≡◌, refl, sym, ◌∙◌, ap, ap₂, subst}
-use mathlib.Core.Bool.{Bool, true, false, cond, not, ◌&&◌, ◌||◌}
+use mathlib.Core.Bool.{Bool, true, false, cond, ◌&&◌, ◌||◌}
 use mathlib.Core.List.{List, [], ◌∷◌, ◌++◌, append_assoc, map}
 use mathlib.Core.Option.{none, some}
 use native.Mathlib.Nat.{add_assoc}
@@ -16,7 +16,7 @@ use Rattle.layout.specs.Transaction.{Head, asset_prefix, nonce_prefix}
 use Rattle.layout.specs.Outcome.{Tables, width}
 use Rattle.layout.specs.Contents.{value_bytes, Every}
 use Rattle.layout.specs.Records.{items_of, sum, value_prefix, high, low, token_prefix}
-use Rattle.layout.specs.Writing.{records, body, value_of, token_of, value_width, issuance_of, issues, input_of, output_of, item_of, input_witness_of, output_witness_of, input_records, output_records, item_records, witnesses_of, contents_of, ◌!◌, lies, value_rule, zeros₄, zeros₇, issuance_rule, input_witness_rule, token_rule, output_witness_rule, output_rule, item_rule, null_issuance, record_items}
+use Rattle.layout.specs.Writing.{body, value_of, token_of, value_width, issuance_of, issues, input_of, output_of, item_of, input_witness_of, output_witness_of, input_records, output_records, item_records, witnesses_of, contents_of, ◌!◌, lies, value_rule, zeros₄, zeros₇, issuance_rule, input_witness_rule, token_rule, output_witness_rule, output_rule, item_rule, null_issuance, record_items}
 use Rattle.layout.specs.Shows.{From, ValueFrom, TokenFrom, Zeros, IssuanceShown, MaybeIssuance, InputShown, OutputShown, InputWitnessShown, OutputWitnessShown, ItemShown, wire_items, Each, EachWitness, MaybeWitnesses, Shows}
 use Rattle.layout.proofs.Reading.{by_cases}
 use Rattle.layout.proofs.Parts.{commitment_prefix}

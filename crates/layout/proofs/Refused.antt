@@ -10,7 +10,7 @@ use lib.ListN.{length, get_or, take, drop, length-append, get_or-append}
 use lib.Seq.{take-add, take_at, length-take-le, get_or-append_seam}
 use borrow.Author.Tests.{leb-true, leb-false, eqb-true, eqb-false}
 use Rattle.layout.specs.Number.{Order, little, big, value, Bytes}
-use Rattle.layout.specs.Layout.{Layout, number, opaque, enter, refuse, accept, more, refused, Reading, Entry, Hidden, txid, blinding_nonce, entropy, asset_part, nonce_part, commitment_part, script_body, proof_body, item_body, run}
+use Rattle.layout.specs.Layout.{Layout, number, opaque, enter, refuse, accept, refused, Reading, Entry, Hidden, txid, blinding_nonce, entropy, asset_part, nonce_part, commitment_part, script_body, proof_body, item_body, run}
 use Rattle.layout.specs.Transaction.{Head, Room, limit, within, further_at, opaque_at, announced, least, compact_at, count_at, body_at, value_at, prefixed_at, each, alone, flag_bit, asset_prefix, nonce_prefix, Seen, seen, issuance_at, input_at, output_at, item_at, stack_at, input_witness_at, output_witness_at, transaction}
 use Rattle.layout.specs.Outcome.{Sizes, room_of, partial}
 use Rattle.layout.specs.Contents.{compact_bytes}

@@ -22,8 +22,8 @@ use lib.ListN.{length, take, drop, length-append}
 use lib.Seq.{take_at, drop_at}
 use borrow.Author.Tests.{leb-true, le-leb, lt-leb, ltb-false, le-ltb}
 use Rattle.layout.specs.Number.{Bytes}
-use Rattle.layout.specs.Layout.{Answer, finished, more, refused, Reading, reading}
-use Rattle.layout.specs.Transaction.{Head, limit, transaction}
+use Rattle.layout.specs.Layout.{Answer, finished, more, refused, reading}
+use Rattle.layout.specs.Transaction.{Head, limit}
 use Rattle.layout.specs.Outcome.{Tables, Sizes, Outcome, room_of, outcome, reading_of, partial, finish, follow, strict}
 use Rattle.layout.specs.Contents.{Contents, contents_bytes, Allowed}
 use Rattle.layout.specs.Fields.{Formed}

@@ -14,7 +14,7 @@ use Rattle.layout.specs.Transaction.{Head, asset_prefix, nonce_prefix}
 use Rattle.layout.specs.Outcome.{Tables}
 use Rattle.layout.specs.Contents.{Value, null, explicit, commitment, Token, absent, present, Issuance, Input, Output, InputWitness, OutputWitness, Witnesses, Contents, value_bytes, flag_of, Every, ValueAllowed, TokenAllowed, is_null, IssuanceAllowed, confused, Flagged, InputAllowed, OutputAllowed, input_empty, output_empty, all, MaybeAllowed}
 use Rattle.layout.specs.Records.{items_of, sum, item_count, value_prefix, high, low, token_prefix}
-use Rattle.layout.specs.Writing.{records, body, value_of, token_of, value_width, issuance_of, issues, input_of, output_of, item_of, input_witness_of, output_witness_of, input_records, output_records, item_records, witnesses_of, contents_of, passes, fault, ◌also◌, unless, ◌!◌, lies, value_rule, zeros₇, issuance_rule, input_witness_rule, input_rule, token_rule, output_witness_rule, output_rule, item_rule, null_issuance, input_fault, record_items, input_faults, rule_faults, empty_input, empty_output, held, table_faults}
+use Rattle.layout.specs.Writing.{records, body, value_of, token_of, value_width, issuance_of, issues, input_of, output_of, item_of, input_witness_of, output_witness_of, input_records, output_records, item_records, witnesses_of, contents_of, passes, ◌also◌, unless, ◌!◌, lies, value_rule, zeros₇, issuance_rule, input_witness_rule, input_rule, token_rule, output_witness_rule, output_rule, item_rule, null_issuance, input_fault, record_items, input_faults, rule_faults, empty_input, empty_output, held, table_faults}
 use Rattle.layout.specs.Shows.{From, ValueFrom, TokenFrom, Zeros, IssuanceShown, MaybeIssuance, InputShown, OutputShown, InputWitnessShown, OutputWitnessShown, ItemShown, wire_items, Each, EachWitness, MaybeWitnesses, Shows}
 use Rattle.layout.proofs.Reading.{by_cases}
 use Rattle.layout.proofs.Parts.{Listing, asset_listing, nonce_listing, listed_other, commitment_prefix, null_prefix, flagged_three}

@@ -13,7 +13,7 @@ use Rattle.layout.specs.Transaction.{Head, limit, announced, within, compact_at,
 use Rattle.layout.specs.Outcome.{Sizes, room_of, partial}
 use Rattle.layout.specs.Contents.{Contents, contents_bytes, compact_bytes, Every}
 use Rattle.layout.specs.Fields.{Formed}
-use Rattle.layout.specs.Sites.{What, counts, lengths, values, assets, nonces, issuances, Site, site, sites_of, compact, listed_at, Fault, not_shortest, too_many, not_listed, null_issuance, Among}
+use Rattle.layout.specs.Sites.{What, counts, lengths, values, assets, nonces, issuances, Site, sites_of, compact, listed_at, Fault, not_shortest, too_many, not_listed, null_issuance, Among}
 use Rattle.layout.proofs.Number.{length_bytes}
 use Rattle.layout.proofs.Compact.{least_fits}
 use Rattle.layout.proofs.Outpoint.{true_not_false}

@@ -8,7 +8,7 @@ use lib.Dec.{leb, eqb}
 use lib.ListN.{length, get_or, take, drop}
 use borrow.Author.Tests.{leb-true}
 use Rattle.layout.specs.Number.{Order, little, big, value, Bytes}
-use Rattle.layout.specs.Layout.{Layout, number, opaque, enter, refuse, accept, Answer, finished, more, refused, Reading, reading, behind, Entry, Table, input, output, item, Hidden, txid, blinding_nonce, entropy, asset_part, nonce_part, commitment_part, script_body, proof_body, item_body, run}
+use Rattle.layout.specs.Layout.{Layout, number, opaque, enter, refuse, accept, Answer, finished, refused, Reading, Entry, Table, input, output, item, Hidden, txid, blinding_nonce, entropy, asset_part, nonce_part, commitment_part, script_body, proof_body, item_body, run}
 use Rattle.layout.specs.Transaction.{Head, Room, limit, entry, within, further_at, opaque_at, announced, least, compact_at, count_at, body_at, value_at, prefixed_at, each, alone, all_ones, flag_bit, vout, flags, Seen, seen, issuance_at, input_at, output_at, item_at, stack_at, input_witness_at, output_witness_at, transaction}
 use Rattle.layout.specs.Outcome.{width}
 use native.Mathlib.Nat.{add_assoc}

@@ -13,7 +13,7 @@ use lib.Seq.{sets, get_or-set_other, get_or-take, get_or-drop}
 use borrow.Author.Tests.{ltb-true, lt-ltb, le-ltb}
 use Rattle.layout.specs.Number.{Bytes}
 use Rattle.layout.specs.Layout.{Answer, finished, more, refused, Reading, reading, Entry, Table, input, output, item, run, hides}
-use Rattle.layout.specs.Transaction.{Head, limit, transaction}
+use Rattle.layout.specs.Transaction.{Head, transaction}
 use Rattle.layout.specs.Outcome.{Tables, Sizes, width, room_of, zeros, change, lay, laid, shown, outcome, reading_of, partial, finish, ended, at_once, follow, strictly, strict, Bearing, Agree, number_of, place_of, head_shown, no_head}
 use Rattle.layout.specs.Contents.{Issuance, Input, flat, issuance_bytes, input_bytes, contents_bytes, Every, Flagged, InputAllowed}
 use Rattle.layout.specs.Records.{head_of, issuance_columns, input_columns, placed, beside, inputs_at, witnesses_at, input_witness_records}

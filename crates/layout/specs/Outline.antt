@@ -3,7 +3,6 @@
 -- and bodies of scripts, proofs and stack items. All else that is taken is bearing, and stays.
 use Rattle.std.specs.Prelude.{ℕ, List, map, length, replicate}
 use Rattle.std.proofs.Math.Option
-use Rattle.std.proofs.Math.Option.{Option}
 use Rattle.layout.specs.Contents.{Value, null, explicit, commitment, Token, absent, present, Issuance, Input, Output, InputWitness, OutputWitness, Witnesses, Contents}
 
 module _ (filler : ℕ) where

@@ -10,14 +10,14 @@ use Prim.Native.Nat.{ℕ, zero, suc}
 use mathlib.Core.Path.{◌≡◌, refl}
 use mathlib.Core.Bool.{true, false}
 use mathlib.Core.List.{List, [], ◌∷◌, ◌++◌, map}
-use lib.ListN.{length, replicate, set}
+use lib.ListN.{replicate, set}
 use Rattle.layout.specs.Number.{bytes_of}
 use Rattle.layout.specs.Outcome.{partial, room_of}
 use Rattle.layout.specs.Sites.{counts, lengths, values, assets, nonces, issuances, site, sites_each, input_witnesses_sites, sites_of}
-use Rattle.layout.specs.Contents.{Contents, compact_bytes, flat, body_bytes, list_bytes, value_bytes, token_bytes, issuance_bytes, input_bytes, output_bytes, input_witness_bytes, output_witness_bytes, witnesses_bytes, contents_bytes, confused, all}
-use Rattle.layout.specs.Records.{sum, placed, placed_witnesses, witnesses_items, beside, head_of, tables_of}
-use Rattle.layout.specs.Writing.{records, body, value_of, token_of, input_of, output_of, item_of, input_witness_of, output_witness_of, contents_of, value_rule, zeros₇, issuance_rule, input_witness_rule, input_rule, token_rule, output_witness_rule, output_rule, item_rule, input_fault, input_faults, rule_faults, table_faults, faults, Verdict, wrote, unwritten, over, Written, written_length, writing, is_fee, verdict_number, verdict_place, verdict_length}
-use Rattle.loads.proofs.Loads.{computes, everything, hex, hidden, one_and_one, sizes, head, tables}
+use Rattle.layout.specs.Contents.{compact_bytes, flat, body_bytes, list_bytes, value_bytes, token_bytes, issuance_bytes, input_bytes, output_bytes, input_witness_bytes, output_witness_bytes, witnesses_bytes, contents_bytes, confused, all}
+use Rattle.layout.specs.Records.{sum, placed, placed_witnesses, witnesses_items, beside, tables_of}
+use Rattle.layout.specs.Writing.{records, body, value_of, token_of, input_of, output_of, item_of, input_witness_of, output_witness_of, contents_of, value_rule, zeros₇, issuance_rule, input_witness_rule, input_rule, token_rule, output_witness_rule, output_rule, item_rule, input_fault, input_faults, rule_faults, table_faults, faults, Verdict, wrote, unwritten, over, written_length, writing, is_fee, verdict_number, verdict_place, verdict_length}
+use Rattle.loads.proofs.Loads.{computes, everything, hidden, one_and_one, sizes, head, tables}
 
 -- Where this is unfolded, writing computes.
 writes : Unit {0}

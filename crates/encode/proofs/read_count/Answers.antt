@@ -3,7 +3,6 @@ use mathlib.Core.Path.{◌≡◌, sym, ◌∙◌}
 use mathlib.Core.Bool.{cond}
 use native.Mathlib.Omega.{arith}
 use lib.Dec.{leb}
-use borrow.Author.Rules.{rules}
 use Rattle.layout.specs.Transaction.{least}
 use Rattle.layout.specs.Layout.{finished, refused}
 use Rattle.encode.specs.Count.{counted}

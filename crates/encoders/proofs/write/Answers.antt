@@ -1,7 +1,6 @@
 use Rattle.encoders.proofs.Writes.{write_refused, write_short, write_passed, write_done}
 use Rattle.encoders.specs.Answers.{head_numbers}
 use Rattle.decoders.specs.Feeding.{tables}
-use borrow.Author.Rules.{rules}
 use Rattle.encoders.proofs.write.Goals as goal
 
 pub returns-in_default : goal.returns-in_default

@@ -1,7 +1,6 @@
 use Rattle.encoders.proofs.Widths.{judged, judged_held, faulty, too_long_lem, fits}
 use Rattle.encoders.specs.Answers.{head_numbers}
 use Rattle.decoders.specs.Feeding.{tables}
-use borrow.Author.Rules.{rules}
 use Rattle.encoders.proofs.written_length.Goals as goal
 
 pub returns-in_default : goal.returns-in_default

@@ -1,5 +1,4 @@
 -- `confidential::value::width` meets its contract: the tests that led to a number pick the same case of `value_width`.
-use borrow.Author.Rules.{rules}
 use borrow.Author.Tests.{eq-eqb, ne_eqb}
 use Rattle.confidential.proofs.value.width.Goals as goal
 

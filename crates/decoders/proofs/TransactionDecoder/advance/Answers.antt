@@ -1,6 +1,5 @@
 use Rattle.decoders.specs.Feeding.{tables}
 use Rattle.decoders.proofs.Advance.{step_have, step_part, step_gathers, step_fits, step_within, step_safe, step_enters, step_settles}
-use borrow.Author.Rules.{rules}
 use Rattle.decoders.proofs.TransactionDecoder.advance.Goals as goal
 
 pub overflow_sub-need : goal.overflow_sub-need

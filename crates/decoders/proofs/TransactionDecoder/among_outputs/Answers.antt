@@ -1,5 +1,4 @@
 -- `TransactionDecoder::among_outputs` meets its contract: it is the definition itself, by what its calls give.
-use borrow.Author.Rules.{rules}
 use Rattle.decoders.specs.Range.{among_outputs}
 use Rattle.decoders.proofs.TransactionDecoder.among_outputs.Goals as goal
 

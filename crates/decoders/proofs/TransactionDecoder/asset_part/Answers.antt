@@ -1,6 +1,5 @@
 use Rattle.decoders.proofs.Branches.{asset_part_is, asset_part_not}
 use mathlib.Core.Path.{sym, ◌∙◌}
-use borrow.Author.Rules.{rules}
 use Rattle.decoders.proofs.TransactionDecoder.asset_part.Goals as goal
 
 pub returns-then-width-eq33 : goal.returns-then-width-eq33

@@ -1,7 +1,6 @@
 use Rattle.decoders.specs.Machine.{big_settled}
 use Rattle.decoders.proofs.Branches.{big_by, big_rest}
 use mathlib.Core.Path.{sym, ◌∙◌}
-use borrow.Author.Rules.{rules}
 use Rattle.decoders.proofs.TransactionDecoder.big_settled.Goals as goal
 
 pub returns-in-9 : goal.returns-in-9

@@ -1,7 +1,6 @@
 use Rattle.decoders.specs.Machine.{body_entered}
 use Rattle.decoders.proofs.Branches.{entered_by, entered_rest}
 use mathlib.Core.Path.{sym, ◌∙◌}
-use borrow.Author.Rules.{rules}
 use Rattle.decoders.proofs.TransactionDecoder.body_entered.Goals as goal
 
 pub returns-in-5 : goal.returns-in-5

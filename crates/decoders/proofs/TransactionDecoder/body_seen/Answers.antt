@@ -2,7 +2,6 @@ use mathlib.Core.Path.{refl}
 use Rattle.decoders.specs.Machine.{body_seen}
 use Rattle.decoders.proofs.Branches.{seen_by, seen_rest}
 use mathlib.Core.Path.{sym, ◌∙◌}
-use borrow.Author.Rules.{rules}
 use Rattle.decoders.proofs.TransactionDecoder.body_seen.Goals as goal
 
 pub returns-in-17 : goal.returns-in-17

@@ -1,6 +1,5 @@
 use Rattle.decoders.specs.Feeding.{tables}
 use Rattle.decoders.proofs.Closing.{closed_refused, closed_kept}
-use borrow.Author.Rules.{rules}
 use Rattle.decoders.proofs.TransactionDecoder.close.Goals as goal
 
 pub returns-then-self-eq-REFUSED : goal.returns-then-self-eq-REFUSED

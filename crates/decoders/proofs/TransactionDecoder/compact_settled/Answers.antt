@@ -1,7 +1,6 @@
 use Rattle.decoders.specs.Machine.{compact_settled}
 use Rattle.decoders.proofs.Branches.{compact_by, compact_rest}
 use mathlib.Core.Path.{sym, ◌∙◌}
-use borrow.Author.Rules.{rules}
 use Rattle.decoders.proofs.TransactionDecoder.compact_settled.Goals as goal
 
 pub returns-in-2 : goal.returns-in-2

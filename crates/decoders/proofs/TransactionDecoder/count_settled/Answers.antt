@@ -1,6 +1,5 @@
 use Rattle.decoders.proofs.Branches.{count_announces_lem, count_long_lem, count_known}
 use mathlib.Core.Path.{sym, ◌∙◌}
-use borrow.Author.Rules.{rules}
 use Rattle.decoders.proofs.TransactionDecoder.count_settled.Goals as goal
 
 pub returns-then-count_announces : goal.returns-then-count_announces

@@ -1,6 +1,5 @@
 use Rattle.decoders.specs.Feeding.{tables}
 use Rattle.decoders.proofs.Entries.{ended_misused, ended_closed, ended_closes}
-use borrow.Author.Rules.{rules}
 use Rattle.decoders.proofs.TransactionDecoder.end.Goals as goal
 
 pub returns-then-gate-ne0 : goal.returns-then-gate-ne0

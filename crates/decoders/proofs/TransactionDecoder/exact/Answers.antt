@@ -1,5 +1,4 @@
 -- `TransactionDecoder::exact` meets its contract: it is the definition itself, by what its calls give.
-use borrow.Author.Rules.{rules}
 use Rattle.decoders.specs.Range.{exact}
 use Rattle.decoders.proofs.TransactionDecoder.exact.Goals as goal
 

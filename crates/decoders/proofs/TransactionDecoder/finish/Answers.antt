@@ -1,6 +1,5 @@
 use mathlib.Core.Path.{◌∙◌}
 use Rattle.decoders.proofs.Closing.{finish_ended, finish_cut}
-use borrow.Author.Rules.{rules}
 use Rattle.decoders.proofs.TransactionDecoder.finish.Goals as goal
 
 pub returns-then-self-ge-FINISHED : goal.returns-then-self-ge-FINISHED

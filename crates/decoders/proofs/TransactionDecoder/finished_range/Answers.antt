@@ -1,5 +1,4 @@
 -- `TransactionDecoder::finished_range` meets its contract: a first test that fails makes both false.
-use borrow.Author.Rules.{rules}
 use native.Mathlib.Omega.{arith}
 use Rattle.decoders.proofs.Chain.{last, off, on}
 use Rattle.decoders.proofs.Ranges.{ended_endable}

@@ -1,6 +1,5 @@
 use mathlib.Core.Path.{◌∙◌}
 use Rattle.decoders.proofs.Closing.{follow_more, follow_none, follow_not}
-use borrow.Author.Rules.{rules}
 use Rattle.decoders.proofs.TransactionDecoder.follow.Goals as goal
 
 pub returns-then-taken-there : goal.returns-then-taken-there

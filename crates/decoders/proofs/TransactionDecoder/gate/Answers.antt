@@ -1,6 +1,5 @@
 use mathlib.Core.Path.{sym, ◌∙◌}
 use Rattle.decoders.proofs.Closing.{gate_range, gate_inputs, gate_outputs, gate_items, gate_open}
-use borrow.Author.Rules.{rules}
 use Rattle.decoders.proofs.TransactionDecoder.gate.Goals as goal
 
 pub returns-then-not-in_range : goal.returns-then-not-in_range

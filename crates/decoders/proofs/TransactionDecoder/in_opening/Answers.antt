@@ -1,5 +1,4 @@
 -- `TransactionDecoder::in_opening` meets its contract: it is the definition itself, by what its calls give.
-use borrow.Author.Rules.{rules}
 use Rattle.decoders.specs.Range.{in_opening}
 use Rattle.decoders.proofs.TransactionDecoder.in_opening.Goals as goal
 

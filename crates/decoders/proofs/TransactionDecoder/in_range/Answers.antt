@@ -1,5 +1,4 @@
 -- `TransactionDecoder::in_range` meets its contract: the stage picks its row.
-use borrow.Author.Rules.{rules}
 use mathlib.Core.Path.{sym, ◌∙◌}
 use Rattle.decoders.proofs.Chain.{others}
 use Rattle.decoders.proofs.Ranges.{row_at, no_test}

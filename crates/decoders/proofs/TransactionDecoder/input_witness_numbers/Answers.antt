@@ -1,5 +1,4 @@
 -- `TransactionDecoder::input_witness_numbers` meets its contract: it is the definition itself, by what its calls give.
-use borrow.Author.Rules.{rules}
 use Rattle.decoders.specs.Range.{input_witness_numbers}
 use Rattle.decoders.proofs.TransactionDecoder.input_witness_numbers.Goals as goal
 

@@ -1,5 +1,4 @@
 use Rattle.decoders.proofs.Branches.{inputs_fit, inputs_many}
-use borrow.Author.Rules.{rules}
 use Rattle.decoders.proofs.TransactionDecoder.inputs_counted.Goals as goal
 
 pub returns-then-n-room : goal.returns-then-n-room

@@ -1,5 +1,4 @@
 -- `TransactionDecoder::inputs_numbers` meets its contract: it is the definition itself, by what its calls give.
-use borrow.Author.Rules.{rules}
 use Rattle.decoders.specs.Range.{inputs_numbers}
 use Rattle.decoders.proofs.TransactionDecoder.inputs_numbers.Goals as goal
 

@@ -1,5 +1,4 @@
 use Rattle.decoders.proofs.Branches.{length_fits, length_past, seen_safe}
-use borrow.Author.Rules.{rules}
 use Rattle.decoders.proofs.TransactionDecoder.length_settled.Goals as goal
 
 pub body_opened-requires : goal.body_opened-requires

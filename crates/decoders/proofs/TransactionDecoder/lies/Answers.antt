@@ -1,5 +1,4 @@
 -- `TransactionDecoder::lies` meets its contract: it is the definition itself, by what its calls give.
-use borrow.Author.Rules.{rules}
 use Rattle.decoders.proofs.TransactionDecoder.lies.Goals as goal
 
 pub returns : goal.returns

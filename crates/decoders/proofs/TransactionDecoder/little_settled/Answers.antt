@@ -1,7 +1,6 @@
 use Rattle.decoders.specs.Machine.{little_settled}
 use Rattle.decoders.proofs.Branches.{little_by, little_rest}
 use mathlib.Core.Path.{sym, ◌∙◌}
-use borrow.Author.Rules.{rules}
 use Rattle.decoders.proofs.TransactionDecoder.little_settled.Goals as goal
 
 pub returns-in-0 : goal.returns-in-0

@@ -1,4 +1,3 @@
-use borrow.Author.Rules.{rules}
 use Rattle.decoders.proofs.TransactionDecoder.locktime_settled.Goals as goal
 
 pub returns : goal.returns

@@ -1,6 +1,5 @@
 use Rattle.decoders.specs.Machine.{machine}
 use mathlib.Core.Path.{ap₂}
-use borrow.Author.Rules.{rules}
 use Rattle.decoders.proofs.TransactionDecoder.new.Goals as goal
 
 pub returns : goal.returns

@@ -1,7 +1,6 @@
 use mathlib.Core.Path.{sym, ◌∙◌}
 use Rattle.decoders.proofs.Branches.{null_keys_is, null_keys_not}
 use mathlib.Core.Path.{sym, ◌∙◌}
-use borrow.Author.Rules.{rules}
 use Rattle.decoders.proofs.TransactionDecoder.null_keys_next.Goals as goal
 
 pub returns-then-self-eq1 : goal.returns-then-self-eq1

@@ -1,6 +1,5 @@
 use Rattle.decoders.specs.Machine.{opaque_settled}
 use Rattle.decoders.proofs.Branches.{opaque_by, opaque_rest}
-use borrow.Author.Rules.{rules}
 use Rattle.decoders.proofs.TransactionDecoder.opaque_settled.Goals as goal
 
 pub returns-in-3 : goal.returns-in-3

@@ -1,5 +1,4 @@
 -- `TransactionDecoder::output_numbers` meets its contract: it is the definition itself, by what its calls give.
-use borrow.Author.Rules.{rules}
 use Rattle.decoders.specs.Range.{output_numbers}
 use Rattle.decoders.proofs.TransactionDecoder.output_numbers.Goals as goal
 

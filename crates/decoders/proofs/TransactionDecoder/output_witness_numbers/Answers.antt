@@ -1,5 +1,4 @@
 -- `TransactionDecoder::output_witness_numbers` meets its contract: it is the definition itself, by what its calls give.
-use borrow.Author.Rules.{rules}
 use Rattle.decoders.specs.Range.{output_witness_numbers}
 use Rattle.decoders.proofs.TransactionDecoder.output_witness_numbers.Goals as goal
 

@@ -1,5 +1,4 @@
 -- `TransactionDecoder::outputs_numbers` meets its contract: it is the definition itself, by what its calls give.
-use borrow.Author.Rules.{rules}
 use Rattle.decoders.specs.Range.{outputs_numbers}
 use Rattle.decoders.proofs.TransactionDecoder.outputs_numbers.Goals as goal
 

@@ -1,7 +1,6 @@
 use Prim.Native.Nat.{ℕ, ◌-◌, ◌≤◌, ◌<◌}
 use Rattle.decoders.proofs.Branches.{pegin_fit, pegin_many, emptied_counted}
 use mathlib.Core.Path.{◌∙◌, ap, subst}
-use borrow.Author.Rules.{rules}
 use Rattle.decoders.proofs.TransactionDecoder.pegin_counted.Goals as goal
 
 pub next_pegin_item-requires : goal.next_pegin_item-requires

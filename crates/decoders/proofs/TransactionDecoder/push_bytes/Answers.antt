@@ -1,7 +1,6 @@
 use Rattle.decoders.specs.Feeding.{tables}
 use Rattle.decoders.proofs.Entries.{gate_starts, pushed_misused, pushed_closed, pushed_closes}
 use mathlib.Core.Path.{◌∙◌}
-use borrow.Author.Rules.{rules}
 use Rattle.decoders.proofs.TransactionDecoder.push_bytes.Goals as goal
 
 pub returns-then-gate-ne0 : goal.returns-then-gate-ne0

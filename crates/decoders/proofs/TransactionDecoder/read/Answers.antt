@@ -1,7 +1,6 @@
 use Rattle.decoders.specs.Feeding.{tables}
 use Rattle.decoders.proofs.Entries.{once_starts, once_closes, at_once_reads}
 use mathlib.Core.Path.{◌∙◌}
-use borrow.Author.Rules.{rules}
 use Rattle.decoders.proofs.TransactionDecoder.read.Goals as goal
 
 pub run-next-requires : goal.run-next-requires

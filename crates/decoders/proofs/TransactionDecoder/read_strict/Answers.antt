@@ -3,7 +3,6 @@ use lib.ListN.{length}
 use Rattle.decoders.specs.Feeding.{tables, follow}
 use Rattle.decoders.proofs.Entries.{once_starts, strict_closes, strict_reads}
 use mathlib.Core.Path.{◌∙◌, ap}
-use borrow.Author.Rules.{rules}
 use Rattle.decoders.proofs.TransactionDecoder.read_strict.Goals as goal
 
 pub run-next-requires : goal.run-next-requires

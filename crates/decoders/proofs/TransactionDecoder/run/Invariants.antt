@@ -1,10 +1,7 @@
-use borrow.Author.Rules.{rules}
-use native.Mathlib.Omega.{arith}
-use mathlib.Core.Path.{refl}
 use lib.ListN.{length}
 use Prim.Native.Nat.{◌-◌}
 use Rattle.decoders.specs.Feeding.{tables}
-use Rattle.decoders.proofs.Loop.{Turn, turn_first, turn_ended, turn_last, turn_feeds, some_more, turn_next}
+use Rattle.decoders.proofs.Loop.{Turn}
 use Rattle.decoders.proofs.TransactionDecoder.run.Given as goal
 
 abbrev pub invariant-loop-n : goal.invariant-loop-n

@@ -1,7 +1,6 @@
 use Prim.Native.Nat.{ℕ, ◌-◌, ◌≤◌, ◌<◌}
 use Rattle.decoders.proofs.Branches.{script_fit, script_many, emptied_limit}
 use mathlib.Core.Path.{◌∙◌, ap, subst}
-use borrow.Author.Rules.{rules}
 use Rattle.decoders.proofs.TransactionDecoder.script_counted.Goals as goal
 
 pub next_script_item-requires : goal.next_script_item-requires

@@ -1,7 +1,6 @@
 use Rattle.decoders.specs.Machine.{settle_by}
 use Rattle.decoders.proofs.Branches.{form_by, form_count, form_rest}
 use mathlib.Core.Path.{sym, ◌∙◌}
-use borrow.Author.Rules.{rules}
 use Rattle.decoders.proofs.TransactionDecoder.settle.Goals as goal
 
 pub returns-then-form-le-FIRST : goal.returns-then-form-le-FIRST

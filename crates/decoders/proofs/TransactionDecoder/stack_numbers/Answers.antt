@@ -1,5 +1,4 @@
 -- `TransactionDecoder::stack_numbers` meets its contract: it is the definition itself, by what its calls give.
-use borrow.Author.Rules.{rules}
 use Rattle.decoders.specs.Range.{stack_numbers}
 use Rattle.decoders.proofs.TransactionDecoder.stack_numbers.Goals as goal
 

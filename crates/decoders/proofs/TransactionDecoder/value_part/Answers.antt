@@ -1,6 +1,5 @@
 use Rattle.decoders.proofs.Branches.{value_part_explicit, value_part_commitment, value_part_unlisted}
 use mathlib.Core.Path.{sym, ◌∙◌}
-use borrow.Author.Rules.{rules}
 use Rattle.decoders.proofs.TransactionDecoder.value_part.Goals as goal
 
 pub returns-then-width-eq9 : goal.returns-then-width-eq9

@@ -1,6 +1,5 @@
 use native.Mathlib.Omega.{arith}
 use Rattle.decoders.proofs.Vout.{flag_small, flags_both}
-use borrow.Author.Rules.{rules}
 use Rattle.decoders.proofs.TransactionDecoder.vout_settled.Goals as goal
 
 pub overflow_mul-both : goal.overflow_mul-both

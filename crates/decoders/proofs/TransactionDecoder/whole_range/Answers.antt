@@ -1,5 +1,4 @@
 -- `TransactionDecoder::whole_range` meets its contract: it is the definition itself, by what its calls give.
-use borrow.Author.Rules.{rules}
 use Rattle.decoders.specs.Range.{whole_range}
 use Rattle.decoders.proofs.TransactionDecoder.whole_range.Goals as goal
 

@@ -1,5 +1,4 @@
 -- `TransactionDecoder::witness_numbers` meets its contract: it is the definition itself, by what its calls give.
-use borrow.Author.Rules.{rules}
 use Rattle.decoders.specs.Range.{witness_numbers}
 use Rattle.decoders.proofs.TransactionDecoder.witness_numbers.Goals as goal
 

@@ -1,6 +1,5 @@
 use Rattle.decoders.proofs.Branches.{long_further}
 use borrow.Author.Tests.{ne_eqb}
-use borrow.Author.Rules.{rules}
 use Rattle.decoders.proofs.compact.count_long.Goals as goal
 
 pub returns-then-form-eq-FURTHER : goal.returns-then-form-eq-FURTHER

@@ -1,6 +1,5 @@
 use Rattle.decoders.proofs.Branches.{start_further}
 use borrow.Author.Tests.{ne_eqb}
-use borrow.Author.Rules.{rules}
 use Rattle.decoders.proofs.compact.count_start.Goals as goal
 
 pub returns-then-form-eq-FURTHER : goal.returns-then-form-eq-FURTHER

@@ -1,5 +1,4 @@
 use Rattle.decoders.proofs.Gather.{eight_value}
-use borrow.Author.Rules.{rules}
 use Rattle.decoders.proofs.feed.eight.Goals as goal
 
 pub returns : goal.returns

@@ -1,5 +1,4 @@
 use Rattle.decoders.proofs.Gather.{four_value}
-use borrow.Author.Rules.{rules}
 use Rattle.decoders.proofs.feed.four.Goals as goal
 
 pub returns : goal.returns

@@ -1,5 +1,4 @@
 use Rattle.decoders.proofs.Gather.{two_value}
-use borrow.Author.Rules.{rules}
 use Rattle.decoders.proofs.feed.two.Goals as goal
 
 pub returns : goal.returns

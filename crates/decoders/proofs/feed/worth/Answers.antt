@@ -1,6 +1,5 @@
 use native.Mathlib.Omega.{arith}
 use Rattle.decoders.proofs.Gather.{big_fits, little_fits, worth_big, worth_little}
-use borrow.Author.Rules.{rules}
 use Rattle.decoders.proofs.feed.worth.Goals as goal
 
 pub overflow_mul-result : goal.overflow_mul-result

@@ -1,7 +1,6 @@
 use native.Mathlib.Omega.{arith}
 use mathlib.Core.Path.{sym}
 use Rattle.decoders.proofs.Gather.{worths_opaque, one_worths, little_whole, big_whole}
-use borrow.Author.Rules.{rules}
 use Rattle.decoders.proofs.feed.worths.Goals as goal
 
 pub returns-then-form-eq-OPAQUE : goal.returns-then-form-eq-OPAQUE

@@ -1,10 +1,8 @@
 use Rattle.decoders.specs.Machine.{worth}
-use borrow.Author.Rules.{rules}
-use Prim.Native.Nat.{◌-◌, ◌+◌}
-use lib.ListN.{length}
+use Prim.Native.Nat.{◌+◌}
 use mathlib.Core.Path.{sym, ◌∙◌, ap}
 use native.Mathlib.Omega.{arith}
-use Rattle.decoders.proofs.Gather.{Worthed, worths_opaque, worthed_none, worthed_more, worthed_all}
+use Rattle.decoders.proofs.Gather.{worths_opaque, worthed_none, worthed_more, worthed_all}
 use Rattle.decoders.proofs.feed.worths_slow.Goals as goal
 
 pub returns-then-form-eq-OPAQUE : goal.returns-then-form-eq-OPAQUE

@@ -1,10 +1,6 @@
-use Rattle.decoders.specs.Machine.{worth}
-use borrow.Author.Rules.{rules}
-use Prim.Native.Nat.{◌-◌, ◌+◌}
+use Prim.Native.Nat.{◌-◌}
 use lib.ListN.{length}
-use mathlib.Core.Path.{sym, ◌∙◌, ap}
-use native.Mathlib.Omega.{arith}
-use Rattle.decoders.proofs.Gather.{Worthed, worths_opaque, worthed_none, worthed_more, worthed_all}
+use Rattle.decoders.proofs.Gather.{Worthed}
 use Rattle.decoders.proofs.feed.worths_slow.Given as goal
 
 abbrev pub invariant-loop-i : goal.invariant-loop-i

@@ -1,6 +1,5 @@
 -- `range::own_bytes` meets its contract: the tests that led to a number pick the same case of the definition.
 use native.Mathlib.Omega.{arith}
-use borrow.Author.Rules.{rules}
 use Rattle.decoders.specs.Range.{own_bytes}
 use Rattle.decoders.proofs.range.own_bytes.Goals as goal
 

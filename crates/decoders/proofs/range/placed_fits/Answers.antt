@@ -1,5 +1,4 @@
 -- `range::placed_fits` meets its contract: it is the definition itself, by what its calls give.
-use borrow.Author.Rules.{rules}
 use Rattle.decoders.specs.Range.{placed_fits}
 use Rattle.decoders.proofs.range.placed_fits.Goals as goal
 

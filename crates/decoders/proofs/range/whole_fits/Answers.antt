@@ -1,5 +1,4 @@
 -- `range::whole_fits` meets its contract: it is the definition itself, by what its calls give.
-use borrow.Author.Rules.{rules}
 use Rattle.decoders.specs.Range.{whole_fits}
 use Rattle.decoders.proofs.range.whole_fits.Goals as goal
 

@@ -1,6 +1,5 @@
 use Rattle.decoders.specs.Feeding.{tables, sizes_of}
 use Rattle.decoders.proofs.Laws.{entered_none, entered_inputs, entered_outputs, entered_items, enterable_inputs, enterable_outputs, enterable_items}
-use borrow.Author.Rules.{rules}
 use Rattle.decoders.proofs.tables.enter.Goals as goal
 
 pub returns-then-table-eq0 : goal.returns-then-table-eq0

@@ -1,7 +1,6 @@
 use lib.ListN.{length-set}
 use native.Mathlib.Omega.{arith}
 use Rattle.decoders.proofs.Laws.{stored_none, stored_one, stored_two, above_zero, two_left}
-use borrow.Author.Rules.{rules}
 use Rattle.decoders.proofs.tables.store.Goals as goal
 
 pub returns-then-count-eq0 : goal.returns-then-count-eq0

@@ -1,8 +1,5 @@
-use borrow.Author.Rules.{rules}
-use lib.ListN.{length}
 use native.Mathlib.Omega.{arith}
-use Prim.Native.Nat.{◌-◌}
-use Rattle.decoders.proofs.Zeroing.{Zeroed, zeroed_none, zeroed_length, zeroed_more, zeroed_all}
+use Rattle.decoders.proofs.Zeroing.{zeroed_none, zeroed_length, zeroed_more, zeroed_all}
 use Rattle.decoders.proofs.tables.zero.Goals as goal
 
 pub loop-i-init : goal.loop-i-init

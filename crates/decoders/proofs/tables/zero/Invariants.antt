@@ -1,8 +1,6 @@
-use borrow.Author.Rules.{rules}
 use lib.ListN.{length}
-use native.Mathlib.Omega.{arith}
 use Prim.Native.Nat.{◌-◌}
-use Rattle.decoders.proofs.Zeroing.{Zeroed, zeroed_none, zeroed_length, zeroed_more, zeroed_all}
+use Rattle.decoders.proofs.Zeroing.{Zeroed}
 use Rattle.decoders.proofs.tables.zero.Given as goal
 
 abbrev pub invariant-loop-i : goal.invariant-loop-i

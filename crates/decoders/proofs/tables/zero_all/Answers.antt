@@ -1,4 +1,3 @@
-use borrow.Author.Rules.{rules}
 use Rattle.decoders.proofs.tables.zero_all.Goals as goal
 
 pub returns : goal.returns

@@ -1,5 +1,4 @@
 -- `encode::little::further` meets its contract: the tests of the first byte pick the width that it announces.
-use native.Mathlib.Omega.{arith}
 use borrow.Author.Tests.{eq-eqb, ne_eqb}
 use Rattle.encode.proofs.little.further.Goals as goal
 

@@ -1,6 +1,5 @@
 -- `encode::little::one` meets its contract: a byte is worth itself.
 use native.Mathlib.Omega.{arith}
-use borrow.Author.Rules.{rules}
 use Rattle.layout.specs.Number.{little}
 use Rattle.encode.proofs.Number.{value_one}
 use Rattle.encode.proofs.little.one.Goals as goal

@@ -1,7 +1,6 @@
 -- `encode::little::two` meets its contract: a number of 2 bytes from its two halves, by the law over the width.
 use Prim.Native.Nat.{◌+◌, ◌*◌, ◌^◌, ◌<◌}
 use native.Mathlib.Omega.{arith}
-use borrow.Author.Rules.{rules}
 use Rattle.layout.specs.Number.{little}
 use Rattle.encode.proofs.Number.{paired_value, paired_small}
 use Rattle.encode.proofs.little.two.Goals as goal

@@ -1,5 +1,4 @@
-use borrow.Author.Tests.{eq-eqb, ne_eqb, not-true, not-false}
-use borrow.Author.Rules.{rules}
+use borrow.Author.Tests.{eq-eqb, ne_eqb}
 use Rattle.encoders.proofs.check.all_empty.Goals as goal
 
 pub returns-then-flag-ne1 : goal.returns-then-flag-ne1

@@ -1,4 +1,3 @@
-use borrow.Author.Rules.{rules}
 use Rattle.encoders.proofs.check.held.Goals as goal
 
 pub returns : goal.returns

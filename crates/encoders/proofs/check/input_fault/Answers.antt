@@ -1,7 +1,5 @@
 use Rattle.encoders.proofs.Judging.{breaks_rule, is_confused, is_null_lem, is_fine}
-use borrow.Author.Tests.{not-true, not-false}
 use native.Mathlib.Omega.{arith}
-use borrow.Author.Rules.{rules}
 use Rattle.encoders.proofs.check.input_fault.Goals as goal
 
 pub returns-then-not-input_rule : goal.returns-then-not-input_rule

@@ -1,6 +1,5 @@
-use Rattle.encoders.proofs.Judging.{lent, lent_length, Judging, judging_first, judging_last, judging_fault, judging_next}
+use Rattle.encoders.proofs.Judging.{lent, lent_length, judging_first, judging_last, judging_fault, judging_next}
 use native.Mathlib.Omega.{arith}
-use Prim.Native.Nat.{◌-◌}
 use Rattle.encoders.proofs.check.input_faults.Goals as goal
 
 pub loop-i-init : goal.loop-i-init

@@ -1,5 +1,4 @@
-use Rattle.encoders.proofs.Judging.{lent, lent_length, Judging, judging_first, judging_last, judging_fault, judging_next}
-use native.Mathlib.Omega.{arith}
+use Rattle.encoders.proofs.Judging.{Judging}
 use Prim.Native.Nat.{◌-◌}
 use Rattle.encoders.proofs.check.input_faults.Given as goal
 

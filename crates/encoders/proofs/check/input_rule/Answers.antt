@@ -1,5 +1,4 @@
 use Rattle.layout.specs.Writing.{input_rule}
-use borrow.Author.Rules.{rules}
 use Rattle.encoders.proofs.check.input_rule.Goals as goal
 
 pub returns : goal.returns

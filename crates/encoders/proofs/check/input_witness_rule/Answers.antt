@@ -1,6 +1,5 @@
 use Rattle.layout.specs.Writing.{input_witness_rule}
 use borrow.Author.Tests.{eq-eqb, ne_eqb}
-use borrow.Author.Rules.{rules}
 use Rattle.encoders.proofs.check.input_witness_rule.Goals as goal
 
 pub returns-then-flag-eq1 : goal.returns-then-flag-eq1

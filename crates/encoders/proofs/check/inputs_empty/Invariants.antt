@@ -1,7 +1,5 @@
-use Rattle.encoders.proofs.Judging.{lent, lent_length, Emptying, emptying_first, emptying_last, emptying_not, emptying_next}
+use Rattle.encoders.proofs.Judging.{Emptying}
 use Rattle.layout.specs.Writing.{empty_input}
-use borrow.Author.Tests.{not-true, not-false}
-use native.Mathlib.Omega.{arith}
 use Prim.Native.Nat.{◌-◌}
 use Rattle.encoders.proofs.check.inputs_empty.Given as goal
 

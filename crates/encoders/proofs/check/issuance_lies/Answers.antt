@@ -1,6 +1,5 @@
 use Rattle.encoders.proofs.Judging.{width_small}
 use native.Mathlib.Omega.{arith}
-use borrow.Author.Rules.{rules}
 use Rattle.encoders.proofs.check.issuance_lies.Goals as goal
 
 pub overflow_add-result-2 : goal.overflow_add-result-2

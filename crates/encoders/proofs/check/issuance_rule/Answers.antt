@@ -1,6 +1,5 @@
 use Rattle.layout.specs.Writing.{issuance_rule}
 use borrow.Author.Tests.{le-leb, lt-leb}
-use borrow.Author.Rules.{rules}
 use Rattle.encoders.proofs.check.issuance_rule.Goals as goal
 
 pub returns-then-r-ge2 : goal.returns-then-r-ge2

@@ -1,9 +1,7 @@
 use Rattle.encoders.proofs.Judging.{held_records, held_refused, flag_refused, tables_pass}
 use Rattle.encoders.specs.Answers.{head_numbers}
 use Rattle.decoders.specs.Feeding.{tables}
-use borrow.Author.Tests.{not-true, not-false}
 use mathlib.Core.Path.{sym, ◌∙◌}
-use borrow.Author.Rules.{rules}
 use Rattle.encoders.proofs.check.judge.Goals as goal
 
 pub returns-then-not-held : goal.returns-then-not-held

@@ -1,8 +1,5 @@
-use Rattle.encoders.proofs.Judging.{lent, lent_length, Ruling, ruling_first, ruling_last, ruling_fault, ruling_next}
-use Rattle.layout.specs.Writing.{output_rule}
-use borrow.Author.Tests.{not-true, not-false}
+use Rattle.encoders.proofs.Judging.{lent, lent_length, ruling_first, ruling_last, ruling_fault, ruling_next}
 use native.Mathlib.Omega.{arith}
-use Prim.Native.Nat.{◌-◌}
 use Rattle.encoders.proofs.check.output_faults.Goals as goal
 
 pub loop-i-init : goal.loop-i-init

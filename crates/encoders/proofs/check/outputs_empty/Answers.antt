@@ -1,8 +1,5 @@
-use Rattle.encoders.proofs.Judging.{lent, lent_length, Emptying, emptying_first, emptying_last, emptying_not, emptying_next}
-use Rattle.layout.specs.Writing.{empty_output}
-use borrow.Author.Tests.{not-true, not-false}
+use Rattle.encoders.proofs.Judging.{lent, lent_length, emptying_first, emptying_last, emptying_not, emptying_next}
 use native.Mathlib.Omega.{arith}
-use Prim.Native.Nat.{◌-◌}
 use Rattle.encoders.proofs.check.outputs_empty.Goals as goal
 
 pub loop-i-init : goal.loop-i-init

@@ -2,7 +2,6 @@ use Rattle.encoders.proofs.Judging.{inputs_pass, inputs_hand, outputs_pass, item
 use Rattle.encoders.specs.Answers.{head_numbers}
 use Rattle.decoders.specs.Feeding.{tables}
 use mathlib.Core.Path.{◌∙◌}
-use borrow.Author.Rules.{rules}
 use Rattle.encoders.proofs.check.record_faults.Goals as goal
 
 pub returns-in_default : goal.returns-in_default

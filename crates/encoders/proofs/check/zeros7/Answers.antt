@@ -1,5 +1,4 @@
 use Rattle.layout.specs.Writing.{zeros₇}
-use borrow.Author.Rules.{rules}
 use Rattle.encoders.proofs.check.zeros7.Goals as goal
 
 pub returns : goal.returns

@@ -1,9 +1,6 @@
-use Rattle.encoders.proofs.Widths.{Summing, summing_first, summing_last, summing_next}
+use Rattle.encoders.proofs.Widths.{summing_first, summing_last, summing_next}
 use Rattle.encoders.proofs.Judging.{lent, lent_length}
-use Rattle.encoders.specs.Needs.{whole_input}
-use borrow.Author.Rules.{rules}
 use native.Mathlib.Omega.{arith}
-use Prim.Native.Nat.{◌-◌}
 use Rattle.encoders.proofs.length.inputs_width.Goals as goal
 
 pub loop-i-init : goal.loop-i-init

@@ -2,7 +2,6 @@ use Rattle.layout.specs.Writing.{◌!◌}
 use Rattle.encoders.proofs.Widths.{issuance_with, issuance_without}
 use Rattle.encoders.proofs.Judging.{width_small}
 use native.Mathlib.Omega.{arith}
-use borrow.Author.Rules.{rules}
 use Rattle.encoders.proofs.length.issuance_width.Goals as goal
 
 pub overflow_add-result : goal.overflow_add-result

@@ -1,7 +1,6 @@
 use Rattle.layout.specs.Writing.{◌!◌}
 use Rattle.encoders.proofs.Judging.{width_small}
 use native.Mathlib.Omega.{arith}
-use borrow.Author.Rules.{rules}
 use Rattle.encoders.proofs.length.output_width.Goals as goal
 
 pub overflow_add-result : goal.overflow_add-result

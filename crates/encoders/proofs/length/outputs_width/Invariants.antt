@@ -1,8 +1,5 @@
-use Rattle.encoders.proofs.Widths.{Summing, summing_first, summing_last, summing_next}
-use Rattle.encoders.proofs.Judging.{lent, lent_length}
+use Rattle.encoders.proofs.Widths.{Summing}
 use Rattle.encoders.specs.Needs.{whole_output}
-use borrow.Author.Rules.{rules}
-use native.Mathlib.Omega.{arith}
 use Prim.Native.Nat.{◌-◌}
 use Rattle.encoders.proofs.length.outputs_width.Given as goal
 

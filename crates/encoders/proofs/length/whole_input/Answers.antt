@@ -1,5 +1,4 @@
 use Rattle.encoders.proofs.Widths.{input_whole, input_alone}
-use borrow.Author.Rules.{rules}
 use Rattle.encoders.proofs.length.whole_input.Goals as goal
 
 pub returns-then-flag-eq1 : goal.returns-then-flag-eq1

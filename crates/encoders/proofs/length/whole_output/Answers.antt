@@ -1,5 +1,4 @@
 use Rattle.encoders.proofs.Widths.{output_whole, output_alone}
-use borrow.Author.Rules.{rules}
 use Rattle.encoders.proofs.length.whole_output.Goals as goal
 
 pub returns-then-flag-eq1 : goal.returns-then-flag-eq1

@@ -1,7 +1,6 @@
 use Rattle.encoders.proofs.Widths.{written_is}
 use Rattle.encoders.specs.Answers.{head_numbers}
 use Rattle.decoders.specs.Feeding.{tables}
-use borrow.Author.Rules.{rules}
 use Rattle.encoders.proofs.length.written.Goals as goal
 
 pub returns : goal.returns

@@ -1,5 +1,4 @@
 use Rattle.encoders.proofs.Putting.{starts, fits, step, end, body_bytes_lem}
-use borrow.Author.Rules.{rules}
 use Rattle.encoders.proofs.put.put_body.Goals as goal
 
 pub put_compact-next-requires : goal.put_compact-next-requires

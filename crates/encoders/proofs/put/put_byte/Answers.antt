@@ -1,5 +1,4 @@
 use Rattle.encoders.proofs.Putting.{put_byte}
-use borrow.Author.Rules.{rules}
 use Rattle.encoders.proofs.put.put_byte.Goals as goal
 
 pub returns : goal.returns

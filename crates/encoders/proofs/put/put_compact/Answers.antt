@@ -1,6 +1,5 @@
 use Rattle.encoders.proofs.Putting.{starts, fits, step, end, compact_one, compact_two, compact_four}
 use native.Mathlib.Omega.{arith}
-use borrow.Author.Rules.{rules}
 use Rattle.encoders.proofs.put.put_compact.Goals as goal
 
 pub put_byte-requires : goal.put_byte-requires

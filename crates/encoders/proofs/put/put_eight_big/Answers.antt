@@ -1,5 +1,4 @@
 use Rattle.encoders.proofs.Putting.{starts, fits, step, end, eight_big}
-use borrow.Author.Rules.{rules}
 use Rattle.encoders.proofs.put.put_eight_big.Goals as goal
 
 pub put_four_big-next-requires : goal.put_four_big-next-requires

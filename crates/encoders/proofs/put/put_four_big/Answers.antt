@@ -1,5 +1,4 @@
 use Rattle.encoders.proofs.Putting.{starts, fits, step, end, four_big}
-use borrow.Author.Rules.{rules}
 use Rattle.encoders.proofs.put.put_four_big.Goals as goal
 
 pub put_byte-second-requires : goal.put_byte-second-requires

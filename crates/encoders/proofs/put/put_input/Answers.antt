@@ -1,5 +1,4 @@
 use Rattle.encoders.proofs.Putting.{starts, fits, step, end, input_parts}
-use borrow.Author.Rules.{rules}
 use Rattle.encoders.proofs.put.put_input.Goals as goal
 
 pub put_part-vout-requires : goal.put_part-vout-requires

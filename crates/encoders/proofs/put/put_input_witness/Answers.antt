@@ -1,6 +1,5 @@
 use Rattle.encoders.proofs.Putting.{start, fits, step, end}
 use Rattle.layout.specs.Contents.{input_witness_bytes}
-use borrow.Author.Rules.{rules}
 use Rattle.encoders.proofs.put.put_input_witness.Goals as goal
 
 pub put_body-keys-requires : goal.put_body-keys-requires

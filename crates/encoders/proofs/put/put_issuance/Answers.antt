@@ -2,7 +2,6 @@ use Rattle.encoders.proofs.Putting.{starts, fits, step, end, ended, issuance_non
 use mathlib.Core.Path.{refl}
 use lib.ListN.{get_or}
 use native.Mathlib.Omega.{arith}
-use borrow.Author.Rules.{rules}
 use Rattle.encoders.proofs.put.put_issuance.Goals as goal
 
 pub returns-then-r-lt2 : goal.returns-then-r-lt2

@@ -1,6 +1,4 @@
-use Rattle.encoders.proofs.Putting.{start}
 use Rattle.layout.specs.Writing.{item_of}
-use borrow.Author.Rules.{rules}
 use Rattle.encoders.proofs.put.put_item.Goals as goal
 
 pub put_body-requires : goal.put_body-requires

@@ -1,6 +1,4 @@
-use Rattle.encoders.proofs.Rows.{row_within, row_ready, Turn, turn_start, turn_room, turn_next, turn_end}
-use Rattle.encoders.specs.Puts.{item_bytes}
-use Prim.Native.Nat.{◌-◌}
+use Rattle.encoders.proofs.Rows.{row_within, row_ready, turn_start, turn_room, turn_next, turn_end}
 use native.Mathlib.Omega.{arith}
 use Rattle.encoders.proofs.put.put_items.Goals as goal
 

@@ -1,7 +1,6 @@
-use Rattle.encoders.proofs.Rows.{row_within, row_ready, Turn, turn_start, turn_room, turn_next, turn_end}
+use Rattle.encoders.proofs.Rows.{Turn}
 use Rattle.encoders.specs.Puts.{item_bytes}
 use Prim.Native.Nat.{◌-◌}
-use native.Mathlib.Omega.{arith}
 use Rattle.encoders.proofs.put.put_items.Given as goal
 
 abbrev pub invariant-loop-i : goal.invariant-loop-i

@@ -2,7 +2,6 @@ use Rattle.encoders.proofs.Putting.{start, fits, step, end}
 use Rattle.layout.specs.Contents.{output_bytes}
 use Rattle.layout.specs.Writing.{output_of}
 use native.Mathlib.Omega.{arith}
-use borrow.Author.Rules.{rules}
 use Rattle.encoders.proofs.put.put_output.Goals as goal
 
 pub put_token-value-requires : goal.put_token-value-requires

@@ -1,7 +1,6 @@
 use Rattle.encoders.proofs.Putting.{start, fits, step, end}
 use Rattle.layout.specs.Contents.{output_witness_bytes}
 use Rattle.layout.specs.Writing.{output_witness_of}
-use borrow.Author.Rules.{rules}
 use Rattle.encoders.proofs.put.put_output_witness.Goals as goal
 
 pub put_body-range_proof-requires : goal.put_body-range_proof-requires

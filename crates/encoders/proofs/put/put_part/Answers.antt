@@ -1,8 +1,6 @@
-use Rattle.encoders.proofs.Putting.{Left, part_starts, part_turn, part_ends, part_room}
-use Prim.Native.Nat.{◌+◌, ◌-◌, ◌≤◌}
-use lib.ListN.{length, drop, length-set}
-use mathlib.Core.Path.{◌≡◌, refl, ◌∙◌}
-use Rattle.layout.specs.Writing.{body}
+use Rattle.encoders.proofs.Putting.{part_starts, part_turn, part_ends, part_room}
+use lib.ListN.{length-set}
+use mathlib.Core.Path.{refl, ◌∙◌}
 use native.Mathlib.Omega.{arith}
 use Rattle.encoders.proofs.put.put_part.Goals as goal
 

@@ -1,9 +1,8 @@
-use Rattle.encoders.proofs.Putting.{Left, part_starts, part_turn, part_ends, part_room}
+use Rattle.encoders.proofs.Putting.{Left}
 use Prim.Native.Nat.{◌+◌, ◌-◌, ◌≤◌}
-use lib.ListN.{length, drop, length-set}
-use mathlib.Core.Path.{◌≡◌, refl, ◌∙◌}
+use lib.ListN.{length, drop}
+use mathlib.Core.Path.{◌≡◌}
 use Rattle.layout.specs.Writing.{body}
-use native.Mathlib.Omega.{arith}
 use Rattle.encoders.proofs.put.put_part.Given as goal
 
 abbrev pub invariant-loop-i : goal.invariant-loop-i

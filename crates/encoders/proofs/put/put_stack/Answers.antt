@@ -1,6 +1,5 @@
 use Rattle.encoders.proofs.Putting.{starts, fits, step, end}
 use Rattle.encoders.proofs.Rows.{stack_bytes, lent_rows}
-use borrow.Author.Rules.{rules}
 use Rattle.encoders.proofs.put.put_stack.Goals as goal
 
 pub put_compact-next-requires : goal.put_compact-next-requires

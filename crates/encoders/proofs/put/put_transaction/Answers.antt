@@ -1,7 +1,6 @@
 use Rattle.encoders.proofs.Putting.{as_bytes, fits, step, end, ended}
 use Rattle.encoders.proofs.Whole.{passed, begins, none_left, some_left, inputs_pass, outputs_pass, witnesses_pass, wrote, over_kept}
 use native.Mathlib.Omega.{arith}
-use borrow.Author.Rules.{rules}
 use Rattle.encoders.proofs.put.put_transaction.Goals as goal
 
 pub put_four_little-flag-requires : goal.put_four_little-flag-requires

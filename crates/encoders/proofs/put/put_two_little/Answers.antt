@@ -1,6 +1,5 @@
 use Rattle.encoders.proofs.Putting.{start, fits, step, end}
 use Rattle.layout.specs.Number.{bytes_of}
-use borrow.Author.Rules.{rules}
 use Rattle.encoders.proofs.put.put_two_little.Goals as goal
 
 pub put_byte-next-requires : goal.put_byte-next-requires

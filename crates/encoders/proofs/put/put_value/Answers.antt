@@ -1,6 +1,5 @@
 use Rattle.encoders.proofs.Putting.{starts, as_bytes, fits, step, end, ended, value_front, value_null, value_explicit, value_part_lem}
 use native.Mathlib.Omega.{arith}
-use borrow.Author.Rules.{rules}
 use Rattle.encoders.proofs.put.put_value.Goals as goal
 
 pub overflow_cast-prefix : goal.overflow_cast-prefix

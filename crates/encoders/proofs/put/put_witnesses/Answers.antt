@@ -1,5 +1,4 @@
 use Rattle.encoders.proofs.Putting.{start, fits, step, end}
-use borrow.Author.Rules.{rules}
 use Rattle.encoders.proofs.put.put_witnesses.Goals as goal
 
 pub put_input_witnesses-next-requires : goal.put_input_witnesses-next-requires
