@@ -1,10 +1,10 @@
 -- What the caller is ANSWERED, said of the answer and not of a definition behind it: when 11 and 10 are given, when never; what a
 -- finished answer means; which numbers and places a refusal can have. docs/THEOREMS.md says which sentence each carries.
---     eleven-answered, ten-answered          11 exactly if the state is out of range; 10 exactly if it is in range and the sizes differ
+--     eleven_answered, ten_answered          11 exactly if the state is out of range; 10 exactly if it is in range and the sizes differ
 --     never-eleven-*                         a fresh state, and one that a call with another answer returned, is never answered 11
 --     zero-behind-*                          a call that answers finished leaves 0 behind its records
 --     *-exactly, *-accepted                  finished exactly for an allowed transaction with room, and then with its head and tables
---     *-numbered, one-repeated               the numbers and places that a refusal can have
+--     *_numbered, one_repeated               the numbers and places that a refusal can have
 use Prim.Native.Nat.{ℕ, ◌+◌, ◌*◌, ◌≤◌}
 use mathlib.Core.Path.{◌≡◌, refl, sym, ◌∙◌, ap, ap₂, subst}
 use mathlib.Core.Bool.{Bool, true, false, cond, true≢false}

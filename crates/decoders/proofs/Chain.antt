@@ -1,5 +1,5 @@
 -- Laws for chains of tests, `a && b && ..`, and for a `match` on a number that goes by a list.
---     and-false         one test that fails makes the chain false
+--     and_false         one test that fails makes the chain false
 --     _and_, last       tests that hold leave it to the last
 --     off, on           a test that a call answers, behind `if !call(..)`
 --     listed            an arm's number is the list's

@@ -147,7 +147,7 @@ as_settled {at} {l} e d = subst (λ (x : Settled). At at x l) (sym e) d
 as_state : {at : ℕ} {l : Layout Head} {s s' : State} → s ≡ s' → At at (quiet s') l → At at (quiet s) l
 as_state {at} {l} e d = subst (λ (x : State). At at (quiet x) l) (sym e) d
 
--- ---- values, assetPrefix and noncePrefix
+-- ---- values, asset_prefix and nonce_prefix
 
 -- what a stage does with a value's prefix, and with what the prefix announces; q is the spot behind a prefix that is not null
 pub record Value (σ at : ℕ) (z : Sizes) (c : Counts) (p q : Spot) (note amount : ℕ → ℕ → Entry) (k : ℕ → ℕ → Layout Head) : Type 0 where

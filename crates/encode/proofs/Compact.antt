@@ -1,7 +1,7 @@
 -- The layout's numbers, counts and lengths, read from bytes that are all there, or cut.
---     number-there, number_short     a number at a place within the limit
---     announced-cases                a first byte announces 2, 4 or 8 bytes
---     compact-empty, -first, -cut, -whole     a count or length: nothing there; its first byte is itself; further bytes missing; all there
+--     number_there, number_short     a number at a place within the limit
+--     announced_cases                a first byte announces 2, 4 or 8 bytes
+--     compact_empty, _first, _cut, _whole     a count or length: nothing there; its first byte is itself; further bytes missing; all there
 use Prim.Native.Nat.{ℕ, ◌+◌, ◌<◌, ◌≤◌}
 use mathlib.Core.Path.{◌≡◌, sym, ◌∙◌, ap}
 use mathlib.Core.Bool.{Bool, true, false, cond}

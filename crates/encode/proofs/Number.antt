@@ -1,8 +1,8 @@
 -- Numbers in bytes, over the width: what code that adds up bytes needs.
---     value-one      one byte is worth itself
---     paired-value   a number of w and w bytes, from its two halves; and it is below 256 ^ (w + w)
---     value-bytes    a number of w bytes as the weighed sum of its bytes
---     value-small    a number of w bytes is below 256 ^ w
+--     value_one      one byte is worth itself
+--     paired_value   a number of w and w bytes, from its two halves; and it is below 256 ^ (w + w)
+--     value_bytes_lem  a number of w bytes as the weighed sum of its bytes
+--     value_small    a number of w bytes is below 256 ^ w
 use Prim.Native.Nat.{ℕ, zero, suc, ◌+◌, ◌*◌, ◌^◌, ◌<◌, ◌≤◌}
 use mathlib.Core.Path.{◌≡◌, refl, sym, ◌∙◌, ap, ap₂, subst}
 use mathlib.Core.List.{List, [], ◌∷◌, ◌++◌}

@@ -1,15 +1,15 @@
 -- The writer beside the reader: the round trips said of the promises of both. The theorems about the definitions stand in
 -- layout/proofs/RoundTrips.
---     told-verdict      the enum tells 01's number, place and length
---     head-given        the writer takes the head numbers that the reader tells
+--     told_verdict      the enum tells 01's number, place and length
+--     head_given_lem    the writer takes the head numbers that the reader tells
 --     written_back      what `read` finished on, `write` gives back: the same bytes
---     reads-back        what `write` wrote, `read` finishes on: the same head numbers, tables that show the same transaction, the same bodies
---     written-exactly   `write` answers a length exactly where the tables show an allowed transaction for which there is room, and writes its bytes
---     long-exactly      `written_length` answers 2 exactly where they show one that is too long and else allowed
+--     reads_back_lem    what `write` wrote, `read` finishes on: the same head numbers, tables that show the same transaction, the same bodies
+--     written_exactly   `write` answers a length exactly where the tables show an allowed transaction for which there is room, and writes its bytes
+--     long_exactly      `written_length` answers 2 exactly where they show one that is too long and else allowed
 --     unwritten         what `written_length` refuses, by number and place, exactly where the tables show what 01 says (layout/specs/Unwritten)
 --     refused, short    what `write` refuses: the same, and 14
 --     fee               `is_fee` says yes exactly of a script length 0
---     position-unread   what `write` leaves is the same, whatever stands as position of a null field or of an explicit value
+--     position_unread   what `write` leaves is the same, whatever stands as position of a null field or of an explicit value
 use Prim.Native.Nat.{ℕ, ◌+◌, ◌*◌, ◌<◌, ◌≤◌}
 use mathlib.Core.Path.{◌≡◌, refl, sym, ◌∙◌, ap, subst}
 use mathlib.Core.Logic.{◌↔◌, ◌≢◌}

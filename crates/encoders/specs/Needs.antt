@@ -12,7 +12,7 @@ pub record Held (h : Head) (t : Tables) : Type 0 where
   pub outputs : 14 * h.outputs ≤ length t.outputs
   pub items : 2 * h.items ≤ length t.items
 
--- tableFaults behind 10 and 7
+-- table_faults behind 10 and 7
 unfoldable pub record_faults : Head → Tables → ℕ → Fault
 record_faults h t there =
     input_faults h.flag there 0 0 (input_records h t)

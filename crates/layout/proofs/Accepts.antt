@@ -1,9 +1,9 @@
 -- The writer accepts exactly what it should: tables over a source that show an allowed transaction, whatever their positions.
---     accepts-shown    no fault exactly if the tables show an allowed transaction
---     writes-exactly   the same of the answer, with the written length
---     shown-written    and then that transaction's bytes are written
---     two-shown        2 exactly if they show one that is allowed but for its length
---     shown-once       tables over a source show one transaction
+--     accepts_shown    no fault exactly if the tables show an allowed transaction
+--     writes_exactly   the same of the answer, with the written length
+--     shown_written    and then that transaction's bytes are written
+--     two_shown        2 exactly if they show one that is allowed but for its length
+--     shown_once       tables over a source show one transaction
 use Prim.Native.Nat.{ℕ, ◌^◌, ◌<◌, ◌≤◌}
 use mathlib.Core.Path.{◌≡◌, sym, ◌∙◌, ap, subst}
 use mathlib.Core.Logic.{◌↔◌}

@@ -1,5 +1,5 @@
 -- What the caller sees of every list of bytes, from what transactions hold.
---     first-enough   what follows 4,000,000 bytes changes nothing
+--     first_enough   what follows 4,000,000 bytes changes nothing
 --     determined     an outcome is seen exactly if specs/Beginnings tells it
 use Prim.Native.Nat.{ℕ, suc, ◌+◌, ◌-◌, ◌^◌, ◌<◌, ◌≤◌}
 use mathlib.Core.Path.{◌≡◌, refl, sym, ◌∙◌, ap, ap₂, subst}

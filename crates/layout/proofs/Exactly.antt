@@ -1,10 +1,10 @@
 -- Each number that writing gives, and its place, exactly when 01's table says it, in the order of judging (specs/Unwritten).
---     unwritten-exactly   of the length asked for alone: 10, 7, 13, 12, 6, 8 and 2, and no other number
---     answer-alike        writing answers every number but 14 just as the length does
---     fourteen-exactly    14
---     held-exactly        10 is given unless every count is held by its table
---     fee-exactly         the fee question, of a record
---     fee-shown           and of the output that it shows
+--     unwritten_exactly   of the length asked for alone: 10, 7, 13, 12, 6, 8 and 2, and no other number
+--     answer_alike        writing answers every number but 14 just as the length does
+--     fourteen_exactly    14
+--     held_exactly        10 is given unless every count is held by its table
+--     fee_exactly         the fee question, of a record
+--     fee_shown           and of the output that it shows
 use Prim.Native.Nat.{ℕ, ◌/◌, ◌<◌, ◌≤◌}
 use mathlib.Core.Path.{◌≡◌, refl, sym, ◌∙◌, ap, subst}
 use mathlib.Core.Logic.{◌↔◌, ◌≢◌, ⊎_elim}

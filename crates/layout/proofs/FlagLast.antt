@@ -310,6 +310,6 @@ module _ (z : Sizes) (a b c d flag : ℕ) (xs : List ℕ) (q : Bytes (a ∷ b �
         ∙ rw (ne_eqb flag 0 (λ e. omega arith), ne_eqb flag 1 (λ e. omega arith)),
   )
 
-  -- 8 is given behind a locktime too: with flag 0 the bytes up to there would be a whole transaction. (That it is given: Moments, read-exactly.)
+  -- 8 is given behind a locktime too: with flag 0 the bytes up to there would be a whole transaction. (That it is given: Moments, read_exactly.)
   pub eight_when : (reading_of z (a ∷ b ∷ c ∷ d ∷ flag ∷ xs)).answer ≡ refused 8 4 → (h : Head) × (plain.answer ≡ finished h)
   eight_when = front_whole 8 (omega arith)

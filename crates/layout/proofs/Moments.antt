@@ -1,9 +1,9 @@
 -- When each number enters: the reading of the first bytes of an allowed transaction, however many they are.
---     tables-so-far   its tables are the transaction's, with each number kept exactly if its moment has come
---     number-so-far   number by number: what stands at a place is the transaction's number there, or 0 before its moment
+--     tables_so_far   its tables are the transaction's, with each number kept exactly if its moment has come
+--     number_so_far   number by number: what stands at a place is the transaction's number there, or 0 before its moment
 --     so_far          before the last byte: more is wanted, all bytes are taken
 --     all_come        from the last byte on: finished, and every number has come
---     read-exactly    of first bytes of what is formed, and of all of them with anything behind, one equation: the outcome
+--     read_exactly    of first bytes of what is formed, and of all of them with anything behind, one equation: the outcome
 use Prim.Native.Nat.{ℕ, ◌+◌, ◌-◌, ◌<◌, ◌≤◌}
 use mathlib.Core.Path.{◌≡◌, refl, sym, ◌∙◌, ap}
 use mathlib.Core.Bool.{Bool, true, false, cond}

@@ -1,7 +1,7 @@
 -- Numbers in bytes: facts proved once, over the width.
---     value-append   the value of two lists of bytes behind one another
---     value-bound    the value of w bytes is below 256 ^ w
---     value-bytes, bytes-value   the bytes of a value, and the value of bytes: one undoes the other
+--     value_append   the value of two lists of bytes behind one another
+--     value_bound    the value of w bytes is below 256 ^ w
+--     value_bytes_lem, bytes_value   the bytes of a value, and the value of bytes: one undoes the other
 use Prim.Native.Nat.{ℕ, zero, suc, ◌+◌, ◌*◌, ◌/◌, ◌%◌, ◌^◌, ◌<◌, ◌≤◌}
 use mathlib.Core.Path.{◌≡◌, refl, sym, ◌∙◌, ap, ap₂, subst}
 use mathlib.Core.List.{List, [], ◌∷◌, ◌++◌}
@@ -117,7 +117,7 @@ bytes_value o w xs h e =
     let small : value o xs < 256 ^ w = subst (λ (n : ℕ). value o xs < 256 ^ n) e (value_bound o xs h) in
     value_injective o (bytes_of o w (value o xs)) xs (bytes_bytes o w (value o xs)) h (length_bytes o w (value o xs) ∙ sym e) (value_bytes_lem o w (value o xs) small)
 
--- one byte is its own value: with value-append this fixes what a number's bytes are worth, in either order
+-- one byte is its own value: with value_append this fixes what a number's bytes are worth, in either order
 pub value_one : (o : Order) (b : ℕ) → value o (b ∷ []) ≡ b
 unfolding value
 value_one little b = omega arith

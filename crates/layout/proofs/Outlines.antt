@@ -1,8 +1,8 @@
 -- Demand 3's bearing bytes from the contents, so that nobody has to believe `hides`.
---     bearing-exactly   two allowed transactions agree at the bearing bytes exactly if they have one outline
---     bearing-behind    and so with anything behind them
---     blind-starts      what starts as one outline is read alike, after each byte, of whatever length
---     blind-outline     so with whole transactions, and anything behind them
+--     bearing_exactly   two allowed transactions agree at the bearing bytes exactly if they have one outline
+--     bearing_behind    and so with anything behind them
+--     blind_starts      what starts as one outline is read alike, after each byte, of whatever length
+--     blind_outline     so with whole transactions, and anything behind them
 use Prim.Native.Nat.{ℕ, zero, suc, ◌+◌, ◌*◌, ◌^◌, ◌<◌, min}
 use mathlib.Core.Path.{◌≡◌, refl, sym, ◌∙◌, ap, ap₂, subst}
 use mathlib.Core.Bool.{Bool, true, false, cond}

@@ -1,11 +1,11 @@
 -- What holds of every layout's reading, by induction on the layout alone.
 --     takes_all     a reading that wants more has taken every byte
---     taken-there   no reading takes more bytes than there are
+--     taken_there   no reading takes more bytes than there are
 --     blind         two inputs of one length that agree at the bearing bytes of the first have the same reading
 --     cut           the reading of xs ++ ys is the reading of xs, and then that of ys by what is left of the layout
 --     stable        an ended reading is the same whatever follows
 --     by_bytes      it ends with the last byte that it takes: before it more is wanted, from it on it has ended
---     prefix-free   no whole text of a layout goes on to another
+--     prefix_free   no whole text of a layout goes on to another
 -- A number and a part that is never looked at are both a field: so many bytes, and then a layout that those bytes choose. What both
 -- need is proved once of a field.
 use Prim.Native.Nat.{ℕ, ◌+◌, ◌-◌, ◌<◌, ◌≤◌}

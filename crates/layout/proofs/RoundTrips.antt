@@ -1,16 +1,16 @@
 -- Reading and writing are inverse: what the documents cite of demand 2, and of writing in demand 1.
---     accepts-exactly          a reading finishes exactly if the bytes begin with those of an allowed transaction for which there is room
+--     accepts_exactly          a reading finishes exactly if the bytes begin with those of an allowed transaction for which there is room
 --     accepted                 and then answer, bytes taken and tables are that transaction's
---     whole-exactly            read strictly: exactly if the bytes are those of such a transaction, and no more
---     one-transaction          no bytes begin with two of them
---     tables-show              a finished reading's head numbers and tables show its transaction over its bytes
---     never-refused            a finished reading's tables are refused by the writer for nothing but 14
---     read-then-write          written back over the same bytes they give the same bytes
---     write-then-read          what the writer accepts reads back as the same transaction
---     records-agree            record for record, the numbers agree in all but positions
---     length-is                the length asked for alone is that of the written bytes
+--     whole_exactly            read strictly: exactly if the bytes are those of such a transaction, and no more
+--     one_transaction          no bytes begin with two of them
+--     tables_show              a finished reading's head numbers and tables show its transaction over its bytes
+--     never_refused            a finished reading's tables are refused by the writer for nothing but 14
+--     read_then_write          written back over the same bytes they give the same bytes
+--     write_then_read          what the writer accepts reads back as the same transaction
+--     records_agree            record for record, the numbers agree in all but positions
+--     length_is                the length asked for alone is that of the written bytes
 --     too_long                 2 at 0, where it would be longer than 4,000,000
---     refused-write-untouched  a refused write leaves the output as it was; written-tail: a success keeps what stands behind
+--     refused_write_untouched  a refused write leaves the output as it was; written_tail: a success keeps what stands behind
 use Prim.Native.Nat.{ℕ, ◌^◌, ◌<◌, ◌≤◌}
 use mathlib.Core.Path.{◌≡◌, refl, sym, ◌∙◌, ap, ap₂, subst}
 use mathlib.Core.Bool.{Bool, true, false, cond}
@@ -43,7 +43,7 @@ use Rattle.layout.proofs.Accepted.{Words, Passed, passed, Tells, tells, parts_al
 use Rattle.layout.proofs.Passed.{passed_shows}
 use Rattle.layout.proofs.Columns.{RecordsAgree, shown_inputs_agree, shown_outputs_agree, shown_items_agree}
 
--- ---- accepts-exactly
+-- ---- accepts_exactly
 
 -- The bytes begin with those of an allowed transaction, and the tables have room for it.
 pub record Begins (z : Sizes) (xs : List ℕ) (x : Contents) : Type 0 where
@@ -208,7 +208,7 @@ one_transaction z xs x y b c =
     let tables = ap (λ (o : Outcome). o.tables) same in
     sym (shows z xs x b) ∙ ap₂ (λ (h : Head) (t : Tables). contents_of h t xs) heads tables ∙ shows z xs y c
 
--- ---- write-then-read
+-- ---- write_then_read
 
 -- What is lent: bytes, and numbers of 32 bits.
 pub record Lent (h : Head) (t : Tables) (source : List ℕ) : Type 0 where

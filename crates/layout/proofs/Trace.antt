@@ -1,10 +1,10 @@
 -- What a reading does, in order: it looks at a byte, passes a byte that it never looks at, makes an entry.
---     looks-taken   its bytes are those that are taken
---     looks-at      a byte is passed exactly if the layout hides it, and is looked at with its value otherwise
---     trace-cut     the trace of the first k bytes is what comes before the byte behind them
---     log-by        so the reading of the first k bytes makes the entries that come before it
+--     looks_taken   its bytes are those that are taken
+--     looks_at      a byte is passed exactly if the layout hides it, and is looked at with its value otherwise
+--     trace_cut     the trace of the first k bytes is what comes before the byte behind them
+--     log_by        so the reading of the first k bytes makes the entries that come before it
 --     Goes          a trace goes along some events and on behind them, or stops among them
---     agree-first   two inputs that are met as the first of the same events agree at each bearing byte that both take
+--     agree_first   two inputs that are met as the first of the same events agree at each bearing byte that both take
 use Prim.Native.Nat.{ℕ, zero, suc, ◌+◌, ◌-◌, ◌<◌, ◌≤◌, min}
 use mathlib.Core.Path.{◌≡◌, refl, sym, ◌∙◌, ap, ap₂, subst}
 use mathlib.Core.Bool.{Bool, true, false, cond, not, ◌&&◌}

@@ -1,7 +1,7 @@
 -- What the caller sees of any bytes, from what transactions hold. Of more than 4,000,000 bytes it is what is seen of the first 4,000,000; and those, or fewer, are one of these:
 --     starts     first bytes of a transaction, or all of them and anything behind: of one that 01 would allow if it had no size limit and no refusal 8, and for which the tables have room
 --     faulty     the bytes of such a transaction up to one of its counts, lengths, prefixes or issuances, and there a fault, or the first bytes of a fault (6: all)
---     flagAbove  with a flag above 1: as with flag 0, but 7 where that would finish
+--     flag_above  with a flag above 1: as with flag 0, but 7 where that would finish
 use Rattle.std.specs.Prelude.{ℕ, ◌+◌, ◌<◌, ◌≡◌, Bool, false, cond, ◌&&◌, List, [], ◌∷◌, ◌++◌, leb, length, take, drop}
 use Rattle.std.proofs.Math.Option.{Option, none, some}
 use Rattle.layout.specs.Layout.{Answer, finished, more, refused}

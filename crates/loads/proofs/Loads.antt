@@ -1,12 +1,12 @@
 -- Document 01's loads, proved of the definitions by computing them. Every number told on a right side was worked out from document 01.
 --     loads           its "Loads to try" that are marked (P), one list under one claim
---     load-96 ..      its other loads that can be computed here, with every number of every table
---     all-prefixes    which of the 256 prefixes are listed, for each kind
---     every-feature   one transaction with all that a transaction can have, laid out byte by byte
---     bearing-bytes   which bytes of that one are bearing, and bearing-cut of cut ones
+--     load_96 ..      its other loads that can be computed here, with every number of every table
+--     all_prefixes    which of the 256 prefixes are listed, for each kind
+--     every_feature   one transaction with all that a transaction can have, laid out byte by byte
+--     bearing_bytes   which bytes of that one are bearing, and bearing_cut of cut ones
 --     edges, limits   loads that pin one rule each: what is refused first, what a table holds so far, where the limits lie
---     locktime-ends, locktime-limit   the locktime at the limit, of whole transactions of 4,000,000 bytes
---     behind-long     positions behind a script of 65,536 bytes; no-sooner, witness-limit, vout-limit: the limit behind an input's script
+--     locktime_ends, locktime_limit   the locktime at the limit, of whole transactions of 4,000,000 bytes
+--     behind_long_lem     positions behind a script of 65,536 bytes; no_sooner, witness_limit, vout_limit: the limit behind an input's script
 use Prim.Native.Nat.{ℕ, zero, suc, ◌+◌, ◌-◌, ◌*◌, ◌^◌}
 use Prim.Native.Char.{code}
 use Prim.Native.String.{String, [] as nothing, ◌∷◌ as ◌then◌}

@@ -1,11 +1,11 @@
 -- Writing, computed. Every number told on a right side was worked out from document 01.
---     everything-back, load-96-back   accepted loads written back, with the output's tail
---     everything-sites                where a fault can stand in it
+--     everything_back, load_96_back   accepted loads written back, with the output's tail
+--     everything_sites                where a fault can stand in it
 --     refusals                        each number that writing gives, by each of its causes, and what is judged first
 --     scattered                       every body from where its own number says
 --     verdicts                        01's number, place and length of each answer
 --     fees                            the fee question
---     not-read                        what the writer does not read: positions of null fields, records behind the counts, the head's length
+--     not_read                        what the writer does not read: positions of null fields, records behind the counts, the head's length
 use Prim.Native.Nat.{ℕ, zero, suc}
 use mathlib.Core.Path.{◌≡◌, refl}
 use mathlib.Core.Bool.{true, false}

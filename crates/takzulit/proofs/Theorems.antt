@@ -1,12 +1,12 @@
 -- Any 20 numbers are a state and any state is 20 numbers, so a forged array is a forged state, and the range test judges it.
---     unpacked-packed, packed-unpacked   a state and its 20 numbers
---     head-kept, head-numbers            a head and its 7 numbers
---     state-order, head-order            which number stands where: docs/STATE.md's order, and 01's for the head
---     fed-refused, fed-finished          number, place and bytes taken of a feeding or finishing
---     read-refused, read-finished        the same of reading at once
---     write-refused, write_done          number, place and length of a write
---     more-alone, more-alone-end         255 is given exactly where more is wanted
---     misuse-array, misuse-array-end     10 and 11: the 20 numbers and the tables are as they were
+--     unpacked_packed, packed_unpacked   a state and its 20 numbers
+--     head_kept, head_numbers_lem            a head and its 7 numbers
+--     state_order, head_order            which number stands where: docs/STATE.md's order, and 01's for the head
+--     fed_refused, fed_finished          number, place and bytes taken of a feeding or finishing
+--     read_refused, read_finished        the same of reading at once
+--     write_refused, write_done          number, place and length of a write
+--     more_alone, more_alone_end         255 is given exactly where more is wanted
+--     misuse_array, misuse_array_end     10 and 11: the 20 numbers and the tables are as they were
 use Prim.Native.Nat.{ℕ, zero, suc, ◌≤◌}
 use mathlib.Core.Path.{◌≡◌, refl, sym, ◌∙◌, ap}
 use mathlib.Core.List.{List, [], ◌∷◌}
