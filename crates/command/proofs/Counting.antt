@@ -1,5 +1,5 @@
 -- Counts of bytes that were read.
-use Prim.Native.Nat.{ℕ, ◌+◌, ◌-◌, ◌≤◌, ◌<◌, min}
+use Prim.Native.Nat.{ℕ, ◌+◌, ◌-◌, ◌≤◌, ◌<◌}
 use mathlib.Core.Path.{◌≡◌, subst}
 use mathlib.Core.List.{List}
 use native.Mathlib.Omega.{arith}
@@ -8,7 +8,7 @@ use borrow.Rule.Slice.PartMut.{mid_of}
 use Rattle.command.specs.declared.Taken.{Taken}
 use Rattle.command.specs.declared.Taken.TheVariants.{Whole, Longer, Nothing}
 use Rattle.command.specs.declared.Step.{Step}
-use Rattle.command.specs.declared.Step.TheVariants.{Came, End, Broken}
+use Rattle.command.specs.declared.Step.TheVariants.{Came}
 use Rattle.command.specs.Within.{Within, Moves}
 
 -- what a read that brought k bytes says of k

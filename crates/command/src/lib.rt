@@ -4,7 +4,14 @@
 ghost use Rattle.std.specs.Prelude.{length};
 ghost use Rattle.command.specs.Within.{Within, Moves};
 
-use libc::{STDERR_FILENO, STDIN_FILENO, STDOUT_FILENO};
+use std::env::{Env, FillError};
+use std::fmt::InlineText;
+use std::fs::{File, Files};
+use std::io::{Error, Input, Read};
+
+const STDOUT_FILENO: i32 = 1;
+
+const STDERR_FILENO: i32 = 2;
 
 // What came of the input. Whole: it ended after so many bytes, which stand at the buffer's start. Longer: the buffer is full, and at least
 // one byte follows. Nothing: help was asked for and printed; or the call was wrong or something could not be read, and standard error says so.
@@ -23,14 +30,35 @@ pub enum Step {
     Broken,
 }
 
-fn read_some(fd: i32, rest: &mut [u8]) -> Step
+// One line on standard error: what failed, a colon and the reason.
+fn complain(what: &[u8], reason: &[u8]) {
+    io::write_all(STDERR_FILENO, what);
+    io::write_all(STDERR_FILENO, b": ");
+    io::write_all(STDERR_FILENO, reason);
+    io::write_all(STDERR_FILENO, b"\n");
+}
+
+// The same, with the system's words for the error. Its number, which std puts after them, is left out.
+fn fail(what: &[u8], error: Error) {
+    let text = InlineText::<128>::of(error);
+    let all = text.as_str();
+    match all.split_once(" (os error ") {
+        Some((reason, _)) => complain(what, reason.as_bytes()),
+        None => complain(what, all.as_bytes()),
+    }
+}
+
+// Why a read broke goes into `error`.
+fn read_some<I: Read>(input: &mut I, rest: &mut [u8], error: &mut Option<Error>) -> Step
     ensures { Moves result (length rest.old) }
 {
-    let got = libc::read(fd, rest);
-    if got < 0 {
-        return Step::Broken;
-    }
-    let n = io::count(got, rest);
+    let n = match input.read(rest) {
+        Ok(n) => n,
+        Err(e) => {
+            *error = Some(e);
+            return Step::Broken;
+        }
+    };
     if n == 0 {
         return Step::End;
     }
@@ -38,11 +66,11 @@ fn read_some(fd: i32, rest: &mut [u8]) -> Step
 }
 
 // The buffer is full after n bytes: whether the input ends there.
-fn beyond(fd: i32, n: usize) -> Taken
+fn beyond<I: Read>(input: &mut I, n: usize, error: &mut Option<Error>) -> Taken
     ensures { Within result n }
 {
     let mut one = [0u8; 1];
-    let last = read_some(fd, &mut one);
+    let last = read_some(input, &mut one, error);
     match last {
         Step::Came(_) => Taken::Longer,
         Step::End => Taken::Whole(n),
@@ -51,12 +79,12 @@ fn beyond(fd: i32, n: usize) -> Taken
 }
 
 // Reads until the input ends or the buffer is full. A read that brings less than was asked for is no end; only one of 0 bytes is.
-fn fill(fd: i32, buffer: &mut [u8]) -> Taken
+fn fill<I: Read>(input: &mut I, buffer: &mut [u8], error: &mut Option<Error>) -> Taken
     ensures { Within result (length buffer.old) }
 {
     let mut n = 0;
     while n < buffer.len() {
-        let came = read_some(fd, &mut buffer[n..]);
+        let came = read_some(input, &mut buffer[n..], error);
         match came {
             Step::Came(k) => {
                 n += k;
@@ -69,16 +97,17 @@ fn fill(fd: i32, buffer: &mut [u8]) -> Taken
             }
         }
     }
-    beyond(fd, n)
+    beyond(input, n, error)
 }
 
 // The same, and a read that fails is told on standard error, by the input's name.
-fn told(fd: i32, name: &[u8], buffer: &mut [u8]) -> Taken
+fn told<I: Read + Drop>(mut input: I, name: &[u8], buffer: &mut [u8]) -> Taken
     ensures { Within result (length buffer.old) }
 {
-    let taken = fill(fd, buffer);
-    if let Taken::Nothing = taken {
-        os::fail(name);
+    let mut error = None;
+    let taken = fill(&mut input, buffer, &mut error);
+    if let Some(e) = error {
+        fail(name, e);
     }
     taken
 }
@@ -103,48 +132,52 @@ fn is_help(word: &[u8]) -> bool {
         && word[5] == b'p'
 }
 
-fn from_path(path: &[u8], buffer: &mut [u8]) -> Taken
+// std opens files by text alone, so a name that is not UTF-8 is told like a file that can't be opened.
+fn from_path<R: Files + Input>(rt: &R, path: &[u8], buffer: &mut [u8]) -> Taken
     ensures { Within result (length buffer.old) }
 {
     if is_dash(path) {
-        return told(STDIN_FILENO, b"standard input", buffer);
+        return told(rt.reader(), b"standard input", buffer);
     }
-    let fd = os::open_read(path);
-    if fd < 0 {
-        os::fail(path);
+    let Ok(name) = str::from_utf8(path) else {
+        complain(path, b"File name is not UTF-8");
         return Taken::Nothing;
+    };
+    match File::open(rt, name) {
+        Ok(file) => told(file, path, buffer),
+        Err(e) => {
+            fail(path, e);
+            Taken::Nothing
+        }
     }
-    let taken = told(fd, path, buffer);
-    libc::close(fd);
-    taken
 }
 
 // Reads the program's input into the buffer: the file that its one argument names; standard input where there is none, or `-`. Whatever goes
 // wrong is one line on standard error: the usage where there are more arguments, else the file's name and the reason. Where help is asked for,
 // usage and help are printed and nothing is read.
-pub fn take(usage: &[u8], help: &[u8], buffer: &mut [u8]) -> Taken
+pub fn take<R: Env + Files + Input>(rt: &R, usage: &[u8], help: &[u8], buffer: &mut [u8]) -> Taken
     ensures { Within result (length buffer.old) }
 {
-    if 2 < os::arg_count() {
+    let mut path = io::buffer();
+    let more = rt.arg(2, &mut path);
+    if !matches!(more, Err(FillError::NotPresent)) {
         io::write_all(STDERR_FILENO, usage);
         return Taken::Nothing;
     }
-    let mut path = io::buffer();
-    let n = os::arg(1, &mut path);
-    let error = os::errno();
-    if error == libc::EINVAL {
-        return told(STDIN_FILENO, b"standard input", buffer);
-    }
-    if error != 0 {
-        os::fail(b"file name");
-        return Taken::Nothing;
-    }
+    let n = match rt.arg(1, &mut path) {
+        Ok(n) => n,
+        Err(FillError::NotPresent) => return told(rt.reader(), b"standard input", buffer),
+        Err(FillError::TooLong) => {
+            complain(b"file name", b"File name too long");
+            return Taken::Nothing;
+        }
+    };
     if is_help(&path[..n]) {
         text(usage);
         text(help);
         return Taken::Nothing;
     }
-    from_path(&path[..n], buffer)
+    from_path(rt, &path[..n], buffer)
 }
 
 pub fn text(s: &[u8]) {

@@ -1,5 +1,5 @@
 -- Why the programs read no more than 4,000,001 bytes of an input.
-use Rattle.std.proofs.Common.{◌≡◌, ℕ, ◌+◌, ◌<◌, ◌≤◌, Bool, true, cond, ltb, List, ◌++◌, length, sym, refl, ap, ◌∙◌, ap₂, arith, length-append, lt-ltb}
+use Rattle.std.proofs.Common.{◌≡◌, ℕ, ◌<◌, Bool, cond, List, ◌++◌, length, sym, refl, ap, ◌∙◌, arith, length-append, lt-ltb}
 use Rattle.layout.specs.Number.{Bytes}
 use Rattle.layout.specs.Layout.{Answer, finished, more, refused, Reading, reading}
 use Rattle.layout.specs.Transaction.{Head, limit}

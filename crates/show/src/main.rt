@@ -36,8 +36,9 @@ fn transaction(source: &[u8]) {
     tables(source, &mut inputs, &mut outputs, &mut items);
 }
 
-fn input(buffer: &mut [u8]) {
+fn input(rt: &HostRuntime, buffer: &mut [u8]) {
     let taken = command::take(
+        rt,
         b"usage: show [FILE]\n",
         b"Shows an Elements transaction to a person: whether it is accepted, or the refusal's number, place and words; where it is accepted, the head\nnumbers and every field of every input, output and item, each with its place. Bytes are shown in hex in wire order, as they stand in the\ntransaction: explorers show txids and asset ids reversed. FILE holds the bytes themselves, not hex. Without FILE, or with -, standard input is\nread. Room: 1024 inputs, 1024 outputs, 8192 items.\n",
         buffer,
@@ -49,7 +50,7 @@ fn input(buffer: &mut [u8]) {
     }
 }
 
-fn main() {
+fn main(rt: HostRuntime) {
     let mut buffer = bytes();
-    input(&mut buffer);
+    input(&rt, &mut buffer);
 }

@@ -6,7 +6,7 @@ use Rattle.layout.specs.Outcome.{Tables, Sizes, strict}
 use Rattle.layout.specs.Writing.{wrote, written_length, written_bytes}
 use Rattle.write_back.specs.declared.Walk.{Walk}
 use Rattle.write_back.specs.declared.Outcome.{Outcome}
-use Rattle.write_back.specs.declared.Outcome.TheVariants.{Same, Different, Refused, Unwritten}
+use Rattle.write_back.specs.declared.Outcome.TheVariants.{Same, Different, Refused}
 
 -- what is said of a walk along n written bytes, where the source has so many
 abbrev pub told_of : Walk → ℕ → ℕ → Outcome

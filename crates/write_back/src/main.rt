@@ -108,8 +108,9 @@ fn transaction(source: &[u8]) {
     print(outcome);
 }
 
-fn input(buffer: &mut [u8]) {
+fn input(rt: &HostRuntime, buffer: &mut [u8]) {
     let taken = command::take(
+        rt,
         b"usage: write_back [FILE]\n",
         b"Reads an Elements transaction, and holds what writing it again gives beside its bytes, one by one. Says 'same: N bytes', or the refusal's number\nand place. FILE holds the bytes themselves, not hex. Without FILE, or with -, standard input is read. Room: 512 inputs, 512 outputs, 1024 items.\n",
         buffer,
@@ -121,7 +122,7 @@ fn input(buffer: &mut [u8]) {
     }
 }
 
-fn main() {
+fn main(rt: HostRuntime) {
     let mut buffer = bytes();
-    input(&mut buffer);
+    input(&rt, &mut buffer);
 }

@@ -1,4 +1,4 @@
-use Rattle.std.proofs.Common.{sym, length-take-le, rules}
+use Rattle.std.proofs.Common.{sym, length-take-le}
 use Rattle.command.proofs.Counting.{whole_within}
 use Rattle.show.proofs.input.Goals as goal
 

@@ -1,7 +1,6 @@
 use mathlib.Core.Path.{sym}
 use lib.Seq.{length-take-le}
 use Rattle.command.proofs.Counting.{whole_within}
-use borrow.Author.Rules.{rules}
 use Rattle.write_back.proofs.input.Goals as goal
 
 pub slice_bounds-transaction-end : goal.slice_bounds-transaction-end

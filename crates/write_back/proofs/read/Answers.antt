@@ -1,4 +1,3 @@
-use borrow.Author.Rules.{rules}
 use Rattle.decoders.specs.Feeding.{tables}
 use Rattle.write_back.proofs.Backing.{read_finished, read_more, read_refused}
 use Rattle.write_back.proofs.read.Goals as goal

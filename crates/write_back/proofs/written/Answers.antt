@@ -1,4 +1,3 @@
-use borrow.Author.Rules.{rules}
 use Rattle.decoders.specs.Feeding.{tables}
 use Rattle.encoders.specs.Answers.{head_numbers}
 use Rattle.write_back.proofs.Backing.{written_judged, written_told, written_refused}

@@ -1,4 +1,4 @@
-use Rattle.std.proofs.Common.{◌-◌, ◌≤◌, arith, rules}
+use Rattle.std.proofs.Common.{◌-◌, ◌≤◌}
 use Rattle.show.proofs.record.fourteen.Given as goal
 
 abbrev pub invariant-loop-c : goal.invariant-loop-c

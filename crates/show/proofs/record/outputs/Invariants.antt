@@ -1,4 +1,4 @@
-use Rattle.std.proofs.Common.{◌-◌, ◌≤◌, rules}
+use Rattle.std.proofs.Common.{◌-◌, ◌≤◌}
 use Rattle.show.proofs.record.outputs.Given as goal
 
 abbrev pub invariant-loop-k : goal.invariant-loop-k

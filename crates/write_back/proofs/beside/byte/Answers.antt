@@ -1,4 +1,3 @@
-use borrow.Author.Rules.{rules}
 use mathlib.Core.Path.{sym, ◌∙◌}
 use Rattle.write_back.proofs.Walking.{byte_same, byte_other, byte_past, byte_ended}
 use Rattle.write_back.proofs.beside.byte.Goals as goal

@@ -1,4 +1,3 @@
-use borrow.Author.Rules.{rules}
 use Rattle.write_back.proofs.Walking.{input_witness_with}
 use Rattle.write_back.proofs.beside.input_witness.Goals as goal
 

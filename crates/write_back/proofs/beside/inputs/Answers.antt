@@ -1,8 +1,6 @@
 use native.Mathlib.Omega.{arith}
-use Prim.Native.Nat.{◌-◌}
 use Rattle.encoders.proofs.Rows.{row_within, row_ready}
-use Rattle.encoders.specs.Puts.{input_row_bytes}
-use Rattle.write_back.proofs.Walking.{Turn, turn_start, turn_next, turn_end}
+use Rattle.write_back.proofs.Walking.{turn_start, turn_next, turn_end}
 use Rattle.write_back.proofs.beside.inputs.Goals as goal
 
 pub loop-i-init : goal.loop-i-init

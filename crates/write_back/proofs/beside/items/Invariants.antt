@@ -1,8 +1,6 @@
-use native.Mathlib.Omega.{arith}
 use Prim.Native.Nat.{◌-◌}
-use Rattle.encoders.proofs.Rows.{row_within, row_ready}
 use Rattle.encoders.specs.Puts.{item_bytes}
-use Rattle.write_back.proofs.Walking.{Turn, turn_start, turn_next, turn_end}
+use Rattle.write_back.proofs.Walking.{Turn}
 use Rattle.write_back.proofs.beside.items.Given as goal
 
 abbrev pub invariant-loop-i : goal.invariant-loop-i

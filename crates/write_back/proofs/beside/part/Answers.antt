@@ -1,9 +1,5 @@
-use borrow.Author.Rules.{rules}
 use native.Mathlib.Omega.{arith}
-use Rattle.write_back.proofs.Walking.{Rest, whole, part_next, part_end}
-use Prim.Native.Nat.{◌-◌, ◌≤◌}
-use lib.ListN.{drop}
-use Rattle.layout.specs.Writing.{body}
+use Rattle.write_back.proofs.Walking.{whole, part_next, part_end}
 use Rattle.write_back.proofs.beside.part.Goals as goal
 
 pub loop-i-init : goal.loop-i-init

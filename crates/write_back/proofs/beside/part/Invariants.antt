@@ -1,6 +1,4 @@
-use borrow.Author.Rules.{rules}
-use native.Mathlib.Omega.{arith}
-use Rattle.write_back.proofs.Walking.{Rest, whole, part_next, part_end}
+use Rattle.write_back.proofs.Walking.{Rest}
 use Prim.Native.Nat.{◌-◌, ◌≤◌}
 use lib.ListN.{drop}
 use Rattle.layout.specs.Writing.{body}

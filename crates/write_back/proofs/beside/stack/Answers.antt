@@ -1,4 +1,3 @@
-use borrow.Author.Rules.{rules}
 use Rattle.encoders.proofs.Rows.{lent_rows}
 use Rattle.write_back.proofs.Walking.{stack_with}
 use Rattle.write_back.proofs.beside.stack.Goals as goal
