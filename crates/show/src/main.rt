@@ -9,7 +9,7 @@ mod record;
 use command::Taken;
 use decoders::{Answer, TransactionDecoder};
 
-// One byte more than a transaction can have: what follows moves no answer (proofs/Theorems: limit-settles).
+// One byte more than a transaction can have: what follows moves no answer (proofs/Theorems: limit_settles).
 fn bytes() -> [u8; 4000001] {
     [0u8; 4000001]
 }

@@ -28,7 +28,7 @@ pub struct Walk {
     pub same: bool,
 }
 
-// One byte more than a transaction can have: what follows moves no answer (show/proofs/Theorems: limit-settles).
+// One byte more than a transaction can have: what follows moves no answer (show/proofs/Theorems: limit_settles).
 fn bytes() -> [u8; 4000001] {
     [0u8; 4000001]
 }
