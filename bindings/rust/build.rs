@@ -1,4 +1,4 @@
-// Links libtakzulit.a from TAKZULIT_LIB, or from where `rt staticlib takzulit` writes it (for aarch64: `.ci/arm-archive`). A relative name counts
+// Links libtakzulit.a from TAKZULIT_LIB, or from where `bin/library` writes it (for aarch64: `.ci/arm-archive`). A relative name counts
 // from this package.
 use std::{env, path::PathBuf};
 
@@ -12,7 +12,7 @@ fn main() {
     let library = here.join(env::var_os("TAKZULIT_LIB").unwrap_or_else(|| usual.into()));
     let archive = library.join("libtakzulit.a");
     if !archive.is_file() {
-        println!("cargo:warning=there is no {}: `rt staticlib takzulit` writes it, TAKZULIT_LIB names its directory", archive.display());
+        println!("cargo:warning=there is no {}: `bin/library` writes it, TAKZULIT_LIB names its directory", archive.display());
     }
     println!("cargo:rerun-if-changed={}", archive.display());
     println!("cargo:rustc-link-search=native={}", library.display());

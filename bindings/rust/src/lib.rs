@@ -1,6 +1,6 @@
 //! Reads and writes Elements transactions with the proved library of Takzulit.
 //!
-//! The library (`libtakzulit.a`, which `rt staticlib takzulit` writes) is a port of the transaction decoders and encoders of the crate `elements`
+//! The library (`libtakzulit.a`, which `bin/library` writes) is a port of the transaction decoders and encoders of the crate `elements`
 //! 0.27.0, and each of its functions is proved to keep its promise. This crate declares them and puts types over them. Nothing is allocated (but by
 //! [`OwnedDecoder`], for its tables): numbers and positions go into three tables of `u32`, and bodies stay where the bytes are.
 //!
@@ -71,7 +71,7 @@
 //! This crate itself is read and run, not proved: that its declarations are those of the exported functions is checked by a script, `.ci/exports`, and its
 //! tests hold it against document 01's values. Curve points, proofs, signatures and hashes are not checked: an accepted transaction has the right
 //! form, and no more. The archive is linked as it is: that it was written from the sources beside this crate is the builder's to see to, by
-//! `rt staticlib takzulit` behind every change of them. A [`Transaction`] does not hold its bytes: whether the source given to
+//! `bin/library` behind every change of them. A [`Transaction`] does not hold its bytes: whether the source given to
 //! [`write`](Transaction::write), or the slice given to [`Body::get`], is the one that was read, is the caller's to know.
 
 #![deny(missing_docs, unsafe_code)]

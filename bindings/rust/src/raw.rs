@@ -5,7 +5,7 @@
 use crate::TransactionDecoder;
 
 #[cfg(not(all(target_os = "linux", any(target_arch = "x86_64", target_arch = "aarch64"), target_pointer_width = "64")))]
-compile_error!("libtakzulit.a is for 64-bit Linux: `rt staticlib takzulit` writes one for x86-64, `.ci/arm-archive` one for aarch64");
+compile_error!("libtakzulit.a is for 64-bit Linux: `bin/library` writes one for x86-64, `.ci/arm-archive` one for aarch64");
 
 /// A transaction's greatest length in bytes.
 pub const LIMIT: usize = 4_000_000;

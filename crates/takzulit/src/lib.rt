@@ -1,4 +1,4 @@
-// The library that Rust and C link: the reader and the writer over plain numbers, fixed arrays and slices. include/takzulit.h declares it.
+// The reader and the writer over plain numbers, fixed arrays and slices. The crate `takzulit_c` exports these functions, as include/takzulit.h declares them.
 #![tactic(auto)]
 
 mod pack;
@@ -11,8 +11,7 @@ ghost use Rattle.takzulit.specs.Numbers.{started, starting, kept, feeding, finis
 use decoders::TransactionDecoder;
 
 // The fresh start: every number of the lent tables is set to 0.
-#[unsafe(no_mangle)]
-pub extern "C" fn takzulit_new(
+pub fn takzulit_new(
     state: &mut [usize; 20],
     inputs: &mut [u32],
     outputs: &mut [u32],
@@ -25,8 +24,7 @@ pub extern "C" fn takzulit_new(
 }
 
 // Feeds a piece.
-#[unsafe(no_mangle)]
-pub extern "C" fn takzulit_push_bytes(
+pub fn takzulit_push_bytes(
     state: &mut [usize; 20],
     piece: &[u8],
     inputs: &mut [u32],
@@ -46,8 +44,7 @@ pub extern "C" fn takzulit_push_bytes(
 }
 
 // Finishes.
-#[unsafe(no_mangle)]
-pub extern "C" fn takzulit_end(
+pub fn takzulit_end(
     state: &mut [usize; 20],
     inputs: &mut [u32],
     outputs: &mut [u32],
@@ -66,8 +63,7 @@ pub extern "C" fn takzulit_end(
 }
 
 // Reads at once.
-#[unsafe(no_mangle)]
-pub extern "C" fn takzulit_read(
+pub fn takzulit_read(
     bytes: &[u8],
     inputs: &mut [u32],
     outputs: &mut [u32],
@@ -84,8 +80,7 @@ pub extern "C" fn takzulit_read(
 }
 
 // Reads at once, strictly.
-#[unsafe(no_mangle)]
-pub extern "C" fn takzulit_read_strict(
+pub fn takzulit_read_strict(
     bytes: &[u8],
     inputs: &mut [u32],
     outputs: &mut [u32],
@@ -102,8 +97,7 @@ pub extern "C" fn takzulit_read_strict(
 }
 
 // The written length alone.
-#[unsafe(no_mangle)]
-pub extern "C" fn takzulit_written_length(
+pub fn takzulit_written_length(
     head: &[u32; 7],
     inputs: &[u32],
     outputs: &[u32],
@@ -118,8 +112,7 @@ pub extern "C" fn takzulit_written_length(
 }
 
 // Writes.
-#[unsafe(no_mangle)]
-pub extern "C" fn takzulit_write(
+pub fn takzulit_write(
     head: &[u32; 7],
     inputs: &[u32],
     outputs: &[u32],
@@ -142,8 +135,7 @@ pub extern "C" fn takzulit_write(
 }
 
 // The fee question, of one output record.
-#[unsafe(no_mangle)]
-pub extern "C" fn takzulit_is_fee(output: &[u32; 14]) -> bool
+pub fn takzulit_is_fee(output: &[u32; 14]) -> bool
     ensures { result ≡ is_fee output.now }
 {
     encoders::is_fee(*output)
