@@ -3,7 +3,7 @@
  * crates/takzulit/src/lib.rt promises, and is proved to keep, for whatever stands in the arrays, tables and bytes that are lent; that the two
  * say the same is read and run, not proved. That the declarations and constants below are those of the exported functions is checked by
  * .ci/exports. No function allocates, keeps a pointer or stops the program, and each returns. The archive is for x86-64 Linux;
- * `.ci/arm-archive` makes one for aarch64 of the same proved module.
+ * `.ci/arm-archive` makes one for aarch64 of the same crates.
  *
  * What the caller owes, and no function can test:
  *   - each pointer points to as many numbers as its length says (or as its array has), is aligned for them, and is not null, even where
