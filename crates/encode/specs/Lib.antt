@@ -1,2 +1,3 @@
--- What the count reader answers.
+-- What the count reader answers, and the refusals' numbers.
 pub mod Count
+pub mod Refusal

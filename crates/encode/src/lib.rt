@@ -2,10 +2,13 @@
 #![tactic(auto)]
 
 mod little;
+mod refusal;
 
 ghost use Rattle.std.specs.Prelude.{◌≡◌, leb};
 ghost use Rattle.layout.specs.Transaction.{announced, least};
 ghost use Rattle.encode.specs.Count.{answer_of, counted};
+
+pub use refusal::{Refusal, RefusalKind, UnlistedNumber};
 
 // What a count reads as: its value, or a refusal's number and place.
 #[derive(Clone, Copy)]
