@@ -1,11 +1,12 @@
 // What the programs that take one transaction share: the input, from a file or from standard input, and pieces of the lines they print.
 #![tactic(auto)]
 
-ghost use Rattle.std.specs.Prelude.{length};
-ghost use Rattle.command.specs.Within.{Within, Moves};
+ghost use Rattle.std.specs.Prelude.{ℕ, List, ◌≤◌, length, IfOk, IfSome};
+ghost use Rattle.std.specs.Fn.{FnOnceReturnsAt};
+ghost use Rattle.command.specs.Within.{Within};
 
 use std::env::{Env, FillError};
-use std::fmt::InlineText;
+use std::fmt::{Display, InlineText};
 use std::fs::{File, Files};
 use std::io::{Error, Input, Read};
 
@@ -13,28 +14,19 @@ const STDOUT_FILENO: i32 = 1;
 
 const STDERR_FILENO: i32 = 2;
 
-// What came of the input. Whole: it ended after so many bytes, which stand at the buffer's start. Longer: the buffer is full, and at least
-// one byte follows. Nothing: help was asked for and printed; or the call was wrong or something could not be read, and standard error says so.
+// The input that was taken. Whole: it ended after so many bytes, which stand at the buffer's start. Longer: the buffer is full, and at least
+// one byte follows.
 #[derive(Clone, Copy)]
 pub enum Taken {
     Whole(usize),
     Longer,
-    Nothing,
 }
 
-// What one read brought.
-#[derive(Clone, Copy)]
-pub enum Step {
-    Came(usize),
-    End,
-    Broken,
-}
-
-// One line on standard error: what failed, a colon and the reason.
-fn complain(what: &[u8], reason: &[u8]) {
+// One line on standard error: what failed, a colon and the reason. No text by Display: a file's name may be bytes that are no UTF-8.
+fn complain(what: &[u8], reason: &str) {
     io::write_all(STDERR_FILENO, what);
     io::write_all(STDERR_FILENO, b": ");
-    io::write_all(STDERR_FILENO, reason);
+    io::write_all(STDERR_FILENO, reason.as_bytes());
     io::write_all(STDERR_FILENO, b"\n");
 }
 
@@ -43,141 +35,118 @@ fn fail(what: &[u8], error: Error) {
     let text = InlineText::<128>::of(error);
     let all = text.as_str();
     match all.split_once(" (os error ") {
-        Some((reason, _)) => complain(what, reason.as_bytes()),
-        None => complain(what, all.as_bytes()),
-    }
-}
-
-// Why a read broke goes into `error`.
-fn read_some<I: Read>(input: &mut I, rest: &mut [u8], error: &mut Option<Error>) -> Step
-    ensures { Moves result (length rest.old) }
-{
-    let n = match input.read(rest) {
-        Ok(n) => n,
-        Err(e) => {
-            *error = Some(e);
-            return Step::Broken;
-        }
-    };
-    if n == 0 {
-        return Step::End;
-    }
-    Step::Came(n)
-}
-
-// The buffer is full after n bytes: whether the input ends there.
-fn beyond<I: Read>(input: &mut I, n: usize, error: &mut Option<Error>) -> Taken
-    ensures { Within result n }
-{
-    let mut one = [0u8; 1];
-    let last = read_some(input, &mut one, error);
-    match last {
-        Step::Came(_) => Taken::Longer,
-        Step::End => Taken::Whole(n),
-        Step::Broken => Taken::Nothing,
+        Some((reason, _)) => complain(what, reason),
+        None => complain(what, all),
     }
 }
 
 // Reads until the input ends or the buffer is full. A read that brings less than was asked for is no end; only one of 0 bytes is.
-fn fill<I: Read>(input: &mut I, buffer: &mut [u8], error: &mut Option<Error>) -> Taken
-    ensures { Within result (length buffer.old) }
+fn fill<I: Read>(input: &mut I, buffer: &mut [u8]) -> Result<Taken, Error>
+    ensures { IfOk result (λ taken. Within taken (length buffer.old)) }
 {
+    // counted by hand: each read says how far the next one begins
     let mut n = 0;
     while n < buffer.len() {
-        let came = read_some(input, &mut buffer[n..], error);
-        match came {
-            Step::Came(k) => {
-                n += k;
-            }
-            Step::End => {
-                return Taken::Whole(n);
-            }
-            Step::Broken => {
-                return Taken::Nothing;
-            }
+        let k = input.read(&mut buffer[n..])?;
+        if k == 0 {
+            return Ok(Taken::Whole(n));
         }
+        n += k;
     }
-    beyond(input, n, error)
+    let mut one = [0u8; 1];
+    if input.read(&mut one)? == 0 {
+        return Ok(Taken::Whole(n));
+    }
+    Ok(Taken::Longer)
 }
 
 // The same, and a read that fails is told on standard error, by the input's name.
-fn told<I: Read + Drop>(mut input: I, name: &[u8], buffer: &mut [u8]) -> Taken
-    ensures { Within result (length buffer.old) }
+fn told<I: Read + Drop>(mut input: I, name: &[u8], buffer: &mut [u8]) -> Option<Taken>
+    ensures { IfSome result (λ taken. Within taken (length buffer.old)) }
 {
-    let mut error = None;
-    let taken = fill(&mut input, buffer, &mut error);
-    if let Some(e) = error {
-        fail(name, e);
+    match fill(&mut input, buffer) {
+        Ok(taken) => Some(taken),
+        Err(e) => {
+            fail(name, e);
+            None
+        }
     }
-    taken
-}
-
-fn is_dash(path: &[u8]) -> bool {
-    path.len() == 1 && path[0] == b'-'
-}
-
-// `-h` or `--help`. A file of that name is `./-h`.
-fn is_help(word: &[u8]) -> bool {
-    if word.len() == 2 {
-        return word[0] == b'-' && word[1] == b'h';
-    }
-    if word.len() != 6 {
-        return false;
-    }
-    word[0] == b'-'
-        && word[1] == b'-'
-        && word[2] == b'h'
-        && word[3] == b'e'
-        && word[4] == b'l'
-        && word[5] == b'p'
 }
 
 // std opens files by text alone, so a name that is not UTF-8 is told like a file that can't be opened.
-fn from_path<R: Files + Input>(rt: &R, path: &[u8], buffer: &mut [u8]) -> Taken
-    ensures { Within result (length buffer.old) }
+fn from_path<R: Files>(rt: &R, path: &[u8], buffer: &mut [u8]) -> Option<Taken>
+    ensures { IfSome result (λ taken. Within taken (length buffer.old)) }
 {
-    if is_dash(path) {
-        return told(rt.reader(), b"standard input", buffer);
-    }
     let Ok(name) = str::from_utf8(path) else {
-        complain(path, b"File name is not UTF-8");
-        return Taken::Nothing;
+        complain(path, "File name is not UTF-8");
+        return None;
     };
     match File::open(rt, name) {
         Ok(file) => told(file, path, buffer),
         Err(e) => {
             fail(path, e);
-            Taken::Nothing
+            None
         }
     }
 }
 
 // Reads the program's input into the buffer: the file that its one argument names; standard input where there is none, or `-`. Whatever goes
-// wrong is one line on standard error: the usage where there are more arguments, else the file's name and the reason. Where help is asked for,
-// usage and help are printed and nothing is read.
-pub fn take<R: Env + Files + Input>(rt: &R, usage: &[u8], help: &[u8], buffer: &mut [u8]) -> Taken
-    ensures { Within result (length buffer.old) }
+// wrong is one line on standard error, and there is no input: the usage where there are more arguments, else the file's name and the reason.
+// Nor is there one where help is asked for: usage and help are printed and nothing is read. A file of that name is `./-h`.
+pub fn take<R: Env + Files + Input>(
+    rt: &R,
+    usage: &[u8],
+    help: &[u8],
+    buffer: &mut [u8],
+) -> Option<Taken>
+    ensures { IfSome result (λ taken. Within taken (length buffer.old)) }
 {
     let mut path = io::buffer();
     let more = rt.arg(2, &mut path);
     if !matches!(more, Err(FillError::NotPresent)) {
         io::write_all(STDERR_FILENO, usage);
-        return Taken::Nothing;
+        return None;
     }
     let n = match rt.arg(1, &mut path) {
         Ok(n) => n,
         Err(FillError::NotPresent) => return told(rt.reader(), b"standard input", buffer),
         Err(FillError::TooLong) => {
-            complain(b"file name", b"File name too long");
-            return Taken::Nothing;
+            complain(b"file name", "File name too long");
+            return None;
         }
     };
-    if is_help(&path[..n]) {
-        text(usage);
-        text(help);
-        return Taken::Nothing;
+    match &path[..n] {
+        b"-" => told(rt.reader(), b"standard input", buffer),
+        b"-h" | b"--help" => {
+            text(usage);
+            text(help);
+            None
+        }
+        name => from_path(rt, name, buffer),
     }
-    from_path(rt, &path[..n], buffer)
+}
+
+// One byte more than a transaction can have: what follows moves no answer (show/proofs/Theorems: limit_settles). Made apart, so that its bytes
+// are not looked at where it is lent.
+fn bytes() -> [u8; 4000001] {
+    [0u8; 4000001]
+}
+
+// Takes the program's input, and hands what came to `transaction`; its result, where there is an input.
+pub fn with_input<R: Env + Files + Input, T, F: FnOnce(&[u8]) -> T>(
+    rt: &R,
+    usage: &[u8],
+    help: &[u8],
+    transaction: F,
+) -> Option<T>
+    requires { F.IsAlwaysCallable transaction }
+    ensures { IfSome result (λ r. (piece : List ℕ) × FnOnceReturnsAt F.FnOnce transaction piece r × length piece ≤ 4000001) }
+{
+    let mut buffer = bytes();
+    match take(rt, usage, help, &mut buffer)? {
+        Taken::Whole(n) => Some(transaction(&buffer[..n])),
+        Taken::Longer => Some(transaction(&buffer)),
+    }
 }
 
 pub fn text(s: &[u8]) {
@@ -188,10 +157,8 @@ pub fn number(n: u64) {
     io::print_decimal(STDOUT_FILENO, n);
 }
 
-// A refusal's number and place, with no line end.
-pub fn refused(number: usize, place: usize) {
+// A refusal as it shows itself, its number and place, with no line end.
+pub fn refused<D: Display + Drop>(refusal: D) {
     text(b"refused: ");
-    io::print_decimal(STDOUT_FILENO, number as u64);
-    text(b" at ");
-    io::print_decimal(STDOUT_FILENO, place as u64);
+    text(InlineText::<64>::of(refusal).as_str().as_bytes());
 }

@@ -1,2 +1,2 @@
-pub mod Width
+pub mod Widths
 pub mod Theorems

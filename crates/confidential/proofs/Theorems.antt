@@ -1,16 +1,37 @@
 -- Any two results that a promise allows are equal. `Post` is the promise itself, as the check reads it off the function's clauses; it
--- speaks of the lifetimes, the arguments, the result, and the arguments at exit.
-use Prim.Native.Nat.{ℕ}
-use mathlib.Core.Path.{◌≡◌, sym, ◌∙◌}
-use Rattle.confidential.proofs.value.width.Reads as value_width_lem
-use Rattle.confidential.proofs.asset.width.Reads as asset_reads
-use Rattle.confidential.proofs.nonce.width.Reads as nonce_reads
+-- speaks of the lifetimes, the arguments, the result, and the arguments at exit, and here of the kind of field: of any, and of each of the three.
+use Rattle.std.specs.Prelude.{◌≡◌, ℕ, Option, None, Some, refl}
+use Rattle.std.proofs.Common.{zero, suc, sym, ◌∙◌, ap}
+use borrow.Author.Tests.{ne_eqb}
+use Rattle.confidential.specs.Width.{listed}
+use Rattle.confidential.specs.contracts.value.Value as value
+use Rattle.confidential.specs.contracts.value.ValueConfidential.TheImpl as value_impl
+use Rattle.confidential.specs.contracts.asset.Asset as asset
+use Rattle.confidential.specs.contracts.asset.AssetConfidential.TheImpl as asset_impl
+use Rattle.confidential.specs.contracts.nonce.Nonce as nonce
+use Rattle.confidential.specs.contracts.nonce.NonceConfidential.TheImpl as nonce_impl
+use Rattle.confidential.proofs.width.Reads as width
 
-pub one_outcome_value : (κ : _) (args : _) (r r' : ℕ) (exit exit' : _) → value_width_lem.Post κ args r exit → value_width_lem.Post κ args r' exit' → r ≡ r'
-one_outcome_value κ args r r' exit exit' p q = p ∙ sym q
+pub one_outcome_width : (K : _) (laws : _) (ghosts : _) (dict : _) (κ : _) (args : _) (r r' : Option ℕ) (exit exit' : _) → width.Post K laws ghosts dict κ args r exit → width.Post K laws ghosts dict κ args r' exit' → r ≡ r'
+one_outcome_width K laws ghosts dict κ args r r' exit exit' p q = p ∙ sym q
 
-pub one_outcome_asset : (κ : _) (args : _) (r r' : ℕ) (exit exit' : _) → asset_reads.Post κ args r exit → asset_reads.Post κ args r' exit' → r ≡ r'
-one_outcome_asset κ args r r' exit exit' p q = p ∙ sym q
+pub one_outcome_value : (laws : _) (dict : _) (κ : _) (args : _) (r r' : Option ℕ) (exit exit' : _) → width.Post value.the_row laws value_impl.ghosts dict κ args r exit → width.Post value.the_row laws value_impl.ghosts dict κ args r' exit' → r ≡ r'
+one_outcome_value laws = one_outcome_width value.the_row laws value_impl.ghosts
 
-pub one_outcome_nonce : (κ : _) (args : _) (r r' : ℕ) (exit exit' : _) → nonce_reads.Post κ args r exit → nonce_reads.Post κ args r' exit' → r ≡ r'
-one_outcome_nonce κ args r r' exit exit' p q = p ∙ sym q
+pub one_outcome_asset : (laws : _) (dict : _) (κ : _) (args : _) (r r' : Option ℕ) (exit exit' : _) → width.Post asset.the_row laws asset_impl.ghosts dict κ args r exit → width.Post asset.the_row laws asset_impl.ghosts dict κ args r' exit' → r ≡ r'
+one_outcome_asset laws = one_outcome_width asset.the_row laws asset_impl.ghosts
+
+pub one_outcome_nonce : (laws : _) (dict : _) (κ : _) (args : _) (r r' : Option ℕ) (exit exit' : _) → width.Post nonce.the_row laws nonce_impl.ghosts dict κ args r exit → width.Post nonce.the_row laws nonce_impl.ghosts dict κ args r' exit' → r ≡ r'
+one_outcome_nonce laws = one_outcome_width nonce.the_row laws nonce_impl.ghosts
+
+-- With 0 for none, the result is the layout's width of the kind of field.
+abbrev or_0 : Option ℕ → ℕ
+or_0 None = 0
+or_0 (Some n) = n
+
+listed_back : (w : ℕ) → or_0 (listed w) ≡ w
+listed_back zero = refl
+listed_back (suc w) = simp (ne_eqb (suc w) 0 (λ e. cc))
+
+pub width_or_0 : (K : _) (laws : _) (ghosts : _) (dict : _) (κ : _) (args : _) (r : Option ℕ) (exit : _) → width.Post K laws ghosts dict κ args r exit → or_0 r ≡ ghosts.width args.0
+width_or_0 K laws ghosts dict κ args r exit p = ap or_0 p ∙ listed_back _

@@ -1,5 +1,5 @@
 -- The bytes of the whole field, its prefix included; 0 where the prefix is not listed.
-use Rattle.std.specs.Prelude.{ℕ, Bool, cond, ◌||◌, eqb}
+use Rattle.std.specs.Prelude.{ℕ, ◌+◌, Bool, cond, ◌||◌, eqb, Option, None, Some}
 use Rattle.layout.specs.Transaction.{asset_prefix, nonce_prefix}
 
 -- Value: prefix 0 null; 1 and a big-endian u64; 8 or 9 and 32 bytes.
@@ -17,3 +17,11 @@ asset_width = prefixed_width asset_prefix
 -- Nonce: prefix 0 null; 1, 2 or 3 and 32 bytes.
 abbrev pub nonce_width : ℕ → ℕ
 nonce_width = prefixed_width nonce_prefix
+
+-- Such a width in code: 0, which no field has, is none.
+abbrev pub listed : ℕ → Option ℕ
+listed width = cond (eqb width 0) None (Some width)
+
+-- A field by what tells it from the others: the bytes behind prefix 1, and the two prefixes of a commitment of 32 bytes.
+abbrev pub by_prefix : ℕ → ℕ → ℕ → ℕ → ℕ
+by_prefix explicit first second prefix = cond (eqb prefix 0) 1 (cond (eqb prefix 1) (1 + explicit) (cond (eqb prefix first || eqb prefix second) 33 0))

@@ -1,25 +1,27 @@
-ghost use Rattle.std.specs.Prelude.{◌≡◌};
+ghost use Rattle.std.proofs.Common.{lit≤};
 ghost use Rattle.confidential.specs.Width.{asset_width};
+ghost use Rattle.confidential.specs.Laws.{prefixed_by_prefix};
 
-const EXPLICIT_LEN: usize = 32;
+use crate::Confidential;
 
-const CONFIDENTIAL_LEN: usize = 33;
+pub struct Asset;
 
-const CONF_PREFIX_1: usize = 10;
+impl Confidential for Asset {
+    ghost EXPLICIT_LEN = { 32 };
 
-const CONF_PREFIX_2: usize = 11;
+    ghost CONF_PREFIX_1 = { 10 };
 
-// The bytes of an asset, its prefix included; 0 where the prefix is not listed.
-pub fn width(prefix: usize) -> usize
-    ensures { result ≡ asset_width prefix }
-{
-    if prefix == 0 {
-        1
-    } else if prefix == 1 {
-        1 + EXPLICIT_LEN
-    } else if (prefix == CONF_PREFIX_1) | (prefix == CONF_PREFIX_2) {
-        CONFIDENTIAL_LEN
-    } else {
-        0
-    }
+    ghost CONF_PREFIX_2 = { 11 };
+
+    const EXPLICIT_LEN: usize = 32;
+
+    const CONF_PREFIX_1: usize = 10;
+
+    const CONF_PREFIX_2: usize = 11;
+
+    ghost width = { asset_width };
+
+    ghost law = { prefixed_by_prefix _ _ };
+
+    ghost short = { lit≤ tt };
 }

@@ -1,25 +1,27 @@
-ghost use Rattle.std.specs.Prelude.{◌≡◌};
+ghost use Rattle.std.specs.Prelude.{refl};
+ghost use Rattle.std.proofs.Common.{lit≤};
 ghost use Rattle.confidential.specs.Width.{value_width};
 
-const EXPLICIT_LEN: usize = 8;
+use crate::Confidential;
 
-const CONFIDENTIAL_LEN: usize = 33;
+pub struct Value;
 
-const CONF_PREFIX_1: usize = 8;
+impl Confidential for Value {
+    ghost EXPLICIT_LEN = { 8 };
 
-const CONF_PREFIX_2: usize = 9;
+    ghost CONF_PREFIX_1 = { 8 };
 
-// The bytes of a value, its prefix included; 0 where the prefix is not listed.
-pub fn width(prefix: usize) -> usize
-    ensures { result ≡ value_width prefix }
-{
-    if prefix == 0 {
-        1
-    } else if prefix == 1 {
-        1 + EXPLICIT_LEN
-    } else if (prefix == CONF_PREFIX_1) | (prefix == CONF_PREFIX_2) {
-        CONFIDENTIAL_LEN
-    } else {
-        0
-    }
+    ghost CONF_PREFIX_2 = { 9 };
+
+    const EXPLICIT_LEN: usize = 8;
+
+    const CONF_PREFIX_1: usize = 8;
+
+    const CONF_PREFIX_2: usize = 9;
+
+    ghost width = { value_width };
+
+    ghost law = { λ prefix. refl };
+
+    ghost short = { lit≤ tt };
 }

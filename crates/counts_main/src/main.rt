@@ -9,7 +9,7 @@ const STDIN_FILENO: i32 = 0;
 const STDOUT_FILENO: i32 = 1;
 
 // How many lines there were: with a value, not in shortest form, and among both those that differ.
-#[derive(Clone, Copy)]
+#[derive(Clone, Copy, Default)]
 struct Tally {
     values: usize,
     longer: usize,
@@ -24,41 +24,27 @@ fn number(n: usize) {
     io::print_decimal(STDOUT_FILENO, n as u64);
 }
 
-// The tally with one line more.
-fn counted(t: Tally, s: &[u8]) -> Tally {
-    let mut next = t;
-    if line::is_longer(s) {
-        next.longer = std::num::wrapping_add_usize(t.longer, 1);
-    } else {
-        next.values = std::num::wrapping_add_usize(t.values, 1);
+impl Tally {
+    // One line more.
+    fn count(&mut self, s: &[u8]) {
+        if line::is_longer(s) {
+            self.longer = self.longer.wrapping_add(1);
+        } else {
+            self.values = self.values.wrapping_add(1);
+        }
+        if !line::agrees(s) {
+            text(s);
+            text(b"\n");
+            self.differences = self.differences.wrapping_add(1);
+        }
     }
-    if line::agrees(s) {
-        return next;
-    }
-    text(s);
-    text(b"\n");
-    next.differences = std::num::wrapping_add_usize(t.differences, 1);
-    next
 }
 
 // What stands behind the last line feed is a line too.
 fn lines(s: &[u8]) -> Tally {
-    let mut t = Tally {
-        values: 0,
-        longer: 0,
-        differences: 0,
-    };
-    let mut start = 0;
-    let mut k = 0;
-    while k < s.len() {
-        if s[k] == b'\n' {
-            t = counted(t, &s[start..k]);
-            start = k + 1;
-        }
-        k += 1;
-    }
-    if start < s.len() {
-        t = counted(t, &s[start..]);
+    let mut t = Tally::default();
+    for one in s.split_inclusive(|b| *b == b'\n') {
+        t.count(one.strip_suffix(b"\n").unwrap_or(one));
     }
     t
 }

@@ -6,43 +6,23 @@ use mathlib.Core.List.{List, [], ◌∷◌}
 use native.Mathlib.Nat.{add-zero, pow-succ'}
 use native.Mathlib.Omega.{arith}
 use lib.Dec.{ltb, eqb}
-use lib.ListN.{length, take, get_or}
+use lib.ListN.{length, take}
 use lib.Seq.{length-take-le}
-use borrow.Author.Tests.{eq-eqb, ne_eqb, lt-ltb, eqb-true, eqb-false, ltb-true, ltb-false}
+use borrow.Author.Tests.{eq-eqb, lt-ltb, eqb-true, ltb-true, ltb-false}
 use Rattle.layout.specs.Number.{Bytes}
-use Rattle.layout.specs.Transaction.{limit}
 use Rattle.layout.specs.Outcome.{Tables}
 use Rattle.layout.proofs.Number.{bytes_take}
 use Rattle.layout.proofs.Reading.{by_cases}
 use Rattle.decoders.specs.declared.Settled.{Settled}
 use Rattle.decoders.specs.declared.Sizes.{Sizes}
-use Rattle.decoders.specs.Machine.{FURTHER, FIRST, OPAQUE, LITTLE, State, worth, worths, gathered, enter_by, machine, Machine, fed, entering, settle, Safe}
-use Rattle.decoders.specs.Range.{greatest_width}
-use Rattle.decoders.proofs.Rows.{kinds}
+use Rattle.decoders.specs.Machine.{OPAQUE, State, worth, worths, gathered, enter, machine, Machine, fed, entering, settle, Safe}
+use Rattle.decoders.proofs.Rows.{kind_at}
 use Rattle.decoders.specs.Feeding.{sizes_of}
-use Rattle.decoders.specs.Needs.{size_by, Storable, Gathers, Fits, Feeds, ours}
+use Rattle.decoders.specs.Needs.{Enterable, Gathers, Fits, Feeds, ours}
 use Rattle.decoders.proofs.Gather.{worth_below, worths_opaque, fed_within, fed_settles}
-use Rattle.decoders.proofs.Ranges.{Open, Ready, range_open, gather_ready, ready_safe}
+use Rattle.decoders.proofs.Ranges.{number_narrow, width_most, Open, Ready, range_open, gather_ready, ready_safe}
 use Rattle.decoders.proofs.Settles.{settle_fits}
 use Rattle.decoders.proofs.Feeds.{settle_taken}
-
--- ---- widths
-
-number_narrow : (kind form : ℕ) → (form ≡ OPAQUE → ⊥) → greatest_width kind form ≤ 8
-unfolding greatest_width
-number_narrow kind form h =
-    by_cases (eqb form FURTHER) (λ a. rw a (omega arith)) λ a.
-    by_cases (eqb form FIRST) (λ b. rw (a, b) (omega arith)) λ b.
-    by_cases (eqb form LITTLE)
-    (λ d. rw (a, b, ne_eqb form OPAQUE h, d) (by_cases (eqb kind 0) (λ e. rw e (omega arith)) (λ e. rw e (omega arith))))
-    (λ d. rw (a, b, ne_eqb form OPAQUE h, d) (omega arith))
-
-narrow : (kind form : ℕ) → greatest_width kind form ≤ limit
-unfolding greatest_width
-narrow kind form =
-    by_cases (eqb form OPAQUE)
-    (λ o. rw (ap (λ (f : ℕ). greatest_width kind f) (eqb-true form OPAQUE o)) (by_cases (eqb kind 4) (λ e. rw e (omega arith)) (λ e. rw e (omega arith))))
-    (λ o. omega (arith, number_narrow kind form (eqb-false form OPAQUE o)))
 
 -- ---- values
 
@@ -80,12 +60,12 @@ module _ (s : State) (t : Tables) (xs : List ℕ) (f : Feeds s t xs) (q : Bytes 
     pub step_gathers : Gathers s.field.form s.field.value s.field.have (length (take k xs))
     step_gathers =
         record {
-          number = λ h. omega (arith, step_part, is_open.have, is_open.stands.narrow, number_narrow (get_or kinds s.field.stage 0) s.field.form h);
+          number = λ h. omega (arith, step_part, is_open.have, is_open.stands.narrow, number_narrow (kind_at s.field.stage) s.field.form h);
           below = value_under;
         }
 
     pub step_fits : Fits k s
-    step_fits = omega (arith, is_open.stands.room, is_open.have, is_open.stands.narrow, narrow (get_or kinds s.field.stage 0) s.field.form)
+    step_fits = omega (arith, is_open.stands.room, is_open.have, is_open.stands.narrow, width_most (kind_at s.field.stage) s.field.form)
 
     -- the value that the field's bytes make
     module _ (v : ℕ) (ev : v ≡ worths s.field.form s.field.value s.field.have (take k xs)) where
@@ -116,13 +96,12 @@ module _ (s : State) (t : Tables) (xs : List ℕ) (f : Feeds s t xs) (q : Bytes 
         step_safe = ready_safe r step_ready
 
         -- what it enters finds its place
-        pub step_enters : (d : Settled) → d ≡ settle r → Storable d.entered (size_by d.entered.table (sizes_of t))
+        pub step_enters : (d : Settled) → d ≡ settle r → Enterable d.entered (sizes_of t)
         step_enters d ed =
-            subst (λ (x : Settled). Storable x.entered (size_by x.entered.table (sizes_of t))) (sym ed)
-            (subst (λ (z : Sizes). Storable (settle r).entered (size_by (settle r).entered.table z)) (ap (λ (x : State). x.sizes) er ∙ f.sizes)
-            (let g = settle_fits r step_ready in record { count = g.count; at = g.at; at2 = g.at2; number = g.number; number2 = g.number2 }))
+            subst (λ (x : Settled). Enterable x.entered (sizes_of t)) (sym ed)
+            (subst (λ (z : Sizes). Enterable (settle r).entered z) (ap (λ (x : State). x.sizes) er ∙ f.sizes) (settle_fits r step_ready))
 
-        pub step_settles : (d : Settled) (t' : Tables) → d ≡ settle r → t' ≡ enter_by d.entered.table d.entered t → machine d.decoder t' ≡ fed (machine s t) (ours s xs)
+        pub step_settles : (d : Settled) (t' : Tables) → d ≡ settle r → t' ≡ enter d.entered t → machine d.decoder t' ≡ fed (machine s t) (ours s xs)
         unfolding entering
         step_settles d t' ed et =
             ap (λ (x : Tables). machine d.decoder x) et

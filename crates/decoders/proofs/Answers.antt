@@ -27,23 +27,20 @@ use Rattle.layout.proofs.Sound.{rows_of, counts}
 use Rattle.layout.proofs.Theorems as of_layout
 use Rattle.layout.proofs.Theorems.{table_of, refusal_placed, finish_finished}
 use Rattle.layout.proofs.RoundTrips.{Begins, begins, accepted, Is, whole_accepted, whole_exactly}
-use Rattle.decoders.specs.declared.Head as declared
-use Rattle.decoders.specs.declared.Answer.{Answer}
-use Rattle.decoders.specs.declared.Answer.TheVariants.{Finished, Refused}
 use Rattle.decoders.specs.Machine.{State, Machine, machine, field, with_field, refuse, opened, next_input, next_output, witnesses_end, next_output_witness, next_input_witness, next_script_item, next_pegin_item, body_ends, body_opened, length_settled, inputs_counted, outputs_counted, script_counted, pegin_counted, compact_settled, first_settled, further_settled, value_part, asset_part, nonce_part, amount_next, null_keys_next, keys_next, asset_next, value_next, nonce_next, sequence_next, locktime_next, little_settled, big_settled, opaque_settled, settle_by, settle, gather, entering, step, fed, answer_of}
 use Rattle.decoders.specs.Range.{in_range}
-use Rattle.decoders.specs.Feeding.{sizes_of, cleared, layout_sizes, begun, told, told_head, Out, out, gate, closed, pushed, ended, finish, whole, read_once, read_strict}
+use Rattle.decoders.specs.Feeding.{sizes_of, cleared, layout_sizes, begun, Out, out, gate, closed, pushed, ended, finish, read_once, read_strict}
 use Rattle.decoders.proofs.Feeds.{cond_same, cond_decoder, step_case, fed_range}
 use Rattle.decoders.proofs.Entries.{gate_starts, finish_closes}
-use Rattle.decoders.proofs.Theorems.{refused_stage, ended_repeats, pushed_open, ended_open, open_answer, open_answer_end, finished_not_refused, more_not_refused, finished_not_more, same_number, same_place, refused_between, misuse_untouched, misuse_untouched_end, eleven_first, gate_known, gate_zero, ten_exactly, range_fresh, range_kept, range_kept_end, join, feeding, started, finished, counted, counted_on, call_counts, Ends, bytes_front, taken_as, feeding_held, call_reads, finishing_reads}
+use Rattle.decoders.proofs.Theorems.{refused_stage, ended_repeats, pushed_open, ended_open, open_answer, open_answer_end, same_number, same_place, refused_between, misuse_untouched, misuse_untouched_end, eleven_first, gate_known, gate_zero, ten_exactly, range_fresh, range_kept, range_kept_end, join, feeding, started, finished, counted, counted_on, call_counts, Ends, bytes_front, taken_as, feeding_held, call_reads, finishing_reads}
 
 -- ---- a call, feeding or finishing
 
 -- what there is to know of a call's result, whichever call it was
 record Call (s : State) (t : Tables) (o : Out) : Type 0 where
-  misused : (gate s (sizes_of t) ≡ 0 → ⊥) → o ≡ out s 0 (Refused (gate s (sizes_of t)) 0) t
-  passed : gate s (sizes_of t) ≡ 0 → (n p : ℕ) → o.fed.answer ≡ Refused n p → (1 ≤ n) × (n ≤ 8) × (p ≤ o.fed.decoder.taken)
-  range : in_range s ≡ true → in_range o.fed.decoder ≡ true
+  misused : (gate s (sizes_of t) ≡ 0 → ⊥) → o ≡ out s 0 (layout.refused (gate s (sizes_of t)) 0) t
+  passed : gate s (sizes_of t) ≡ 0 → (n p : ℕ) → o.answer ≡ layout.refused n p → (1 ≤ n) × (n ≤ 8) × (p ≤ o.state.taken)
+  range : in_range s ≡ true → in_range o.state ≡ true
 
 pushed_call : (s : State) (t : Tables) (xs : List ℕ) → Bytes xs → Call s t (pushed s t xs)
 unfolding closed
@@ -51,8 +48,8 @@ pushed_call s t xs q =
     record {
       misused = misuse_untouched s t xs;
       passed = λ g n p e.
-          subst (λ (x : Out). (1 ≤ n) × (n ≤ 8) × (p ≤ x.fed.decoder.taken)) (sym (pushed_open s t xs g))
-          (refused_between (fed (machine s t) xs).state n p (fed_range (machine s t) xs q (gate_starts s t (gate s (sizes_of t)) refl g).range) (sym (open_answer s t xs g) ∙ e));
+          subst (λ (x : Out). (1 ≤ n) × (n ≤ 8) × (p ≤ x.state.taken)) (sym (pushed_open s t xs g))
+          (refused_between (fed (machine s t) xs).state n p (fed_range (machine s t) xs q (gate_starts s t g).range) (sym (open_answer s t xs g) ∙ e));
       range = range_kept s t xs q;
     }
 
@@ -62,8 +59,8 @@ ended_call s t =
     record {
       misused = misuse_untouched_end s t;
       passed = λ g n p e.
-          subst (λ (x : Out). (1 ≤ n) × (n ≤ 8) × (p ≤ x.fed.decoder.taken)) (sym (ended_open s t g))
-          (refused_between (finish s) n p (finish_closes s (gate_starts s t (gate s (sizes_of t)) refl g).range) (sym (open_answer_end s t g) ∙ e));
+          subst (λ (x : Out). (1 ≤ n) × (n ≤ 8) × (p ≤ x.state.taken)) (sym (ended_open s t g))
+          (refused_between (finish s) n p (finish_closes s (gate_starts s t g).range) (sym (open_answer_end s t g) ∙ e));
       range = range_kept_end s t;
     }
 
@@ -76,87 +73,87 @@ pub record Numbered (n p taken : ℕ) : Type 0 where
   pub misuse : 10 ≤ n → p ≡ 0
 
 module _ (s : State) (t : Tables) (o : Out) (c : Call s t o) where
-  misused_answer : (gate s (sizes_of t) ≡ 0 → ⊥) → o.fed.answer ≡ Refused (gate s (sizes_of t)) 0
-  misused_answer h = ap (λ (x : Out). x.fed.answer) (c.misused h)
+  misused_answer : (gate s (sizes_of t) ≡ 0 → ⊥) → o.answer ≡ layout.refused (gate s (sizes_of t)) 0
+  misused_answer h = ap (λ (x : Out). x.answer) (c.misused h)
 
   -- let through, or refused by 10 or 11
-  by_gate : {C : Type 0} → (gate s (sizes_of t) ≡ 0 → C) → (in_range s ≡ true → o.fed.answer ≡ Refused 10 0 → C) → (in_range s ≡ false → o.fed.answer ≡ Refused 11 0 → C) → C
+  by_gate : {C : Type 0} → (gate s (sizes_of t) ≡ 0 → C) → (in_range s ≡ true → o.answer ≡ layout.refused 10 0 → C) → (in_range s ≡ false → o.answer ≡ layout.refused 11 0 → C) → C
   by_gate f g h =
       by_cases (eqb (gate s (sizes_of t)) 0)
       (λ z. f (eqb-true (gate s (sizes_of t)) 0 z))
       (λ z. let shut = eqb-false (gate s (sizes_of t)) 0 z in
       by_cases (in_range s)
-      (λ r. g r (misused_answer shut ∙ ap (λ (n : ℕ). Refused n 0) (gate_known s (sizes_of t) r shut)))
-      (λ r. h r (misused_answer shut ∙ ap (λ (n : ℕ). Refused n 0) (eleven_first s (sizes_of t) r))))
+      (λ r. g r (misused_answer shut ∙ ap (λ (n : ℕ). layout.refused n 0) (gate_known s (sizes_of t) r shut)))
+      (λ r. h r (misused_answer shut ∙ ap (λ (n : ℕ). layout.refused n 0) (eleven_first s (sizes_of t) r))))
 
-  out_of_range : in_range s ≡ false → o.fed.answer ≡ Refused 11 0
+  out_of_range : in_range s ≡ false → o.answer ≡ layout.refused 11 0
   out_of_range r =
       by_gate
       (λ g. absurd (omega (arith, g, eleven_first s (sizes_of t) r)))
       (λ r' _. absurd (true≢false (sym r' ∙ r)))
       (λ _ e. e)
 
-  eleven_out : (p : ℕ) → o.fed.answer ≡ Refused 11 p → in_range s ≡ false
+  eleven_out : (p : ℕ) → o.answer ≡ layout.refused 11 p → in_range s ≡ false
   eleven_out p e =
       by_gate
       (λ g. absurd (omega (arith, c.passed g 11 p e)))
       (λ _ e'. absurd (omega (arith, same_number 10 11 0 p (sym e' ∙ e))))
       (λ r _. r)
 
-  eleven_is : (o.fed.answer ≡ Refused 11 0) ↔ (in_range s ≡ false)
+  eleven_is : (o.answer ≡ layout.refused 11 0) ↔ (in_range s ≡ false)
   eleven_is = (eleven_out 0, out_of_range)
 
-  ten_out : o.fed.answer ≡ Refused 10 0 → (in_range s ≡ true) × (s.sizes ≡ sizes_of t → ⊥)
+  ten_out : o.answer ≡ layout.refused 10 0 → (in_range s ≡ true) × (s.sizes ≡ sizes_of t → ⊥)
   ten_out e =
       by_gate
       (λ g. absurd (omega (arith, c.passed g 10 0 e)))
       (λ r _. (r, λ same. omega (arith, c.passed (gate_zero s (sizes_of t) r same) 10 0 e)))
       (λ _ e'. absurd (omega (arith, same_number 11 10 0 0 (sym e' ∙ e))))
 
-  ten_is : (o.fed.answer ≡ Refused 10 0) ↔ ((in_range s ≡ true) × (s.sizes ≡ sizes_of t → ⊥))
+  ten_is : (o.answer ≡ layout.refused 10 0) ↔ ((in_range s ≡ true) × (s.sizes ≡ sizes_of t → ⊥))
   ten_is = (
     ten_out,
     λ d.
         let ten = (ten_exactly s t d.0).0 d.1 in
-        misused_answer (λ z. omega (arith, z, ten)) ∙ ap (λ (n : ℕ). Refused n 0) ten,
+        misused_answer (λ z. omega (arith, z, ten)) ∙ ap (λ (n : ℕ). layout.refused n 0) ten,
   )
 
-  numbered : (n p : ℕ) → o.fed.answer ≡ Refused n p → Numbered n p o.fed.decoder.taken
+  numbered : (n p : ℕ) → o.answer ≡ layout.refused n p → Numbered n p o.state.taken
   numbered n p e =
       by_gate
       (λ g. let k = c.passed g n p e in record { least = k.0; most = omega (arith, k); not_nine = λ z. omega (arith, k); place = k.2; misuse = λ z. absurd (omega (arith, k)) })
       (λ _ e'. at_zero_lem 10 (omega arith) (omega arith) e')
       (λ _ e'. at_zero_lem 11 (omega arith) (omega arith) e')
     where
-      at_zero_lem : (m : ℕ) → 10 ≤ m → m ≤ 11 → o.fed.answer ≡ Refused m 0 → Numbered n p o.fed.decoder.taken
+      at_zero_lem : (m : ℕ) → 10 ≤ m → m ≤ 11 → o.answer ≡ layout.refused m 0 → Numbered n p o.state.taken
       at_zero_lem m l h e' =
           let a = same_number m n 0 p (sym e' ∙ e) in
           let b = same_place m n 0 p (sym e' ∙ e) in
           record { least = omega arith; most = omega arith; not_nine = λ z. omega arith; place = omega arith; misuse = λ z. omega arith }
 
   -- what the call returns is in range, unless it answered 11
-  range_next : (o.fed.answer ≡ Refused 11 0 → ⊥) → in_range o.fed.decoder ≡ true
+  range_next : (o.answer ≡ layout.refused 11 0 → ⊥) → in_range o.state ≡ true
   range_next h = c.range (by_cases (in_range s) (λ r. r) (λ r. absurd (h (out_of_range r))))
 
 -- ---- 11 and 10
 
 -- 11 is answered exactly where the state fails the range test, whatever the tables and the bytes
-pub eleven_answered : (s : State) (t : Tables) (xs : List ℕ) → Bytes xs → ((pushed s t xs).fed.answer ≡ Refused 11 0) ↔ (in_range s ≡ false)
+pub eleven_answered : (s : State) (t : Tables) (xs : List ℕ) → Bytes xs → ((pushed s t xs).answer ≡ layout.refused 11 0) ↔ (in_range s ≡ false)
 eleven_answered s t xs q = eleven_is s t (pushed s t xs) (pushed_call s t xs q)
 
-pub eleven_answered_end : (s : State) (t : Tables) → ((ended s t).fed.answer ≡ Refused 11 0) ↔ (in_range s ≡ false)
+pub eleven_answered_end : (s : State) (t : Tables) → ((ended s t).answer ≡ layout.refused 11 0) ↔ (in_range s ≡ false)
 eleven_answered_end s t = eleven_is s t (ended s t) (ended_call s t)
 
 -- 10 exactly where it passes and the sizes are not its own
-pub ten_answered : (s : State) (t : Tables) (xs : List ℕ) → Bytes xs → ((pushed s t xs).fed.answer ≡ Refused 10 0) ↔ ((in_range s ≡ true) × (s.sizes ≡ sizes_of t → ⊥))
+pub ten_answered : (s : State) (t : Tables) (xs : List ℕ) → Bytes xs → ((pushed s t xs).answer ≡ layout.refused 10 0) ↔ ((in_range s ≡ true) × (s.sizes ≡ sizes_of t → ⊥))
 ten_answered s t xs q = ten_is s t (pushed s t xs) (pushed_call s t xs q)
 
-pub ten_answered_end : (s : State) (t : Tables) → ((ended s t).fed.answer ≡ Refused 10 0) ↔ ((in_range s ≡ true) × (s.sizes ≡ sizes_of t → ⊥))
+pub ten_answered_end : (s : State) (t : Tables) → ((ended s t).answer ≡ layout.refused 10 0) ↔ ((in_range s ≡ true) × (s.sizes ≡ sizes_of t → ⊥))
 ten_answered_end s t = ten_is s t (ended s t) (ended_call s t)
 
 -- the next call, feeding or finishing, with any tables and bytes, doesn't answer 11 at any place
 abbrev pub NeverEleven : State → Type 0
-NeverEleven s = (t : Tables) (p : ℕ) → ((xs : List ℕ) → Bytes xs → (pushed s t xs).fed.answer ≡ Refused 11 p → ⊥) × ((ended s t).fed.answer ≡ Refused 11 p → ⊥)
+NeverEleven s = (t : Tables) (p : ℕ) → ((xs : List ℕ) → Bytes xs → (pushed s t xs).answer ≡ layout.refused 11 p → ⊥) × ((ended s t).answer ≡ layout.refused 11 p → ⊥)
 
 never_eleven : (s : State) → in_range s ≡ true → NeverEleven s
 never_eleven s r t p = ((λ xs q e. true≢false (sym r ∙ eleven_out s t (pushed s t xs) (pushed_call s t xs q) p e)), (λ e. true≢false (sym r ∙ eleven_out s t (ended s t) (ended_call s t) p e)))
@@ -164,65 +161,54 @@ never_eleven s r t p = ((λ xs q e. true≢false (sym r ∙ eleven_out s t (push
 pub never_eleven_fresh : (t : Tables) → NeverEleven (begun t).state
 never_eleven_fresh t = never_eleven (begun t).state (range_fresh t)
 
-pub never_eleven_next : (s : State) (t : Tables) (xs : List ℕ) → Bytes xs → ((pushed s t xs).fed.answer ≡ Refused 11 0 → ⊥) → NeverEleven (pushed s t xs).fed.decoder
-never_eleven_next s t xs q h = never_eleven (pushed s t xs).fed.decoder (range_next s t (pushed s t xs) (pushed_call s t xs q) h)
+pub never_eleven_next : (s : State) (t : Tables) (xs : List ℕ) → Bytes xs → ((pushed s t xs).answer ≡ layout.refused 11 0 → ⊥) → NeverEleven (pushed s t xs).state
+never_eleven_next s t xs q h = never_eleven (pushed s t xs).state (range_next s t (pushed s t xs) (pushed_call s t xs q) h)
 
-pub never_eleven_next_end : (s : State) (t : Tables) → ((ended s t).fed.answer ≡ Refused 11 0 → ⊥) → NeverEleven (ended s t).fed.decoder
-never_eleven_next_end s t h = never_eleven (ended s t).fed.decoder (range_next s t (ended s t) (ended_call s t) h)
+pub never_eleven_next_end : (s : State) (t : Tables) → ((ended s t).answer ≡ layout.refused 11 0 → ⊥) → NeverEleven (ended s t).state
+never_eleven_next_end s t h = never_eleven (ended s t).state (range_next s t (ended s t) (ended_call s t) h)
 
 -- ---- finished
-
--- what the enum says of 01's answer
-told_finished : (a : layout.Answer Head) (g : declared.Head) → told a ≡ Finished g → a ≡ layout.finished (told_head (Finished g))
-told_finished (layout.finished h) g e = ap (λ (x : Answer). layout.finished (told_head x)) e
-told_finished layout.more g e = absurd (finished_not_more g (sym e))
-told_finished (layout.refused n p) g e = absurd (finished_not_refused g n p (sym e))
-
-told_refused : (a : layout.Answer Head) (n p : ℕ) → told a ≡ Refused n p → a ≡ layout.refused n p
-told_refused (layout.finished h) n p e = absurd (finished_not_refused _ n p e)
-told_refused layout.more n p e = absurd (more_not_refused n p e)
-told_refused (layout.refused m q) n p e = let a = same_number m n q p e in let b = same_place m n q p e in λ i. layout.refused (a i) (b i)
 
 -- one more piece, after feeding pieces from a fresh start with state and tables handed on
 abbrev pub call : Tables → List (List ℕ) → List ℕ → Out
 call t ps p = let h = feeding (started t) ps in pushed h.state h.tables p
 
 -- after every call: answer, the bytes told in all, those in the state, and tables, as 01's reading of the bytes so far has them
-pub call_ends : (t : Tables) (ps : List (List ℕ)) (p : List ℕ) (q : Bytes (join ps ++ p)) → Ends (counted (started t) ps + (call t ps p).fed.taken) (call t ps p) (partial (layout_sizes t) (join ps ++ p))
+pub call_ends : (t : Tables) (ps : List (List ℕ)) (p : List ℕ) (q : Bytes (join ps ++ p)) → Ends (counted (started t) ps + (call t ps p).taken) (call t ps p) (partial (layout_sizes t) (join ps ++ p))
 call_ends t ps p q =
     let h = feeding (started t) ps in
     let front = bytes_front (join ps) p q in
     let w = feeding_held t ps front in
     let o = ap₂ (λ (s : State) (x : Tables). pushed s x p) w.0 w.1 ∙ call_reads t (join ps) front p q in
-    let taken : (call t ps p).fed.decoder.taken ≡ (partial (layout_sizes t) (join ps ++ p)).taken = ap (λ (x : Out). x.fed.decoder.taken) o ∙ taken_as t (join ps ++ p) q in
+    let taken : (call t ps p).state.taken ≡ (partial (layout_sizes t) (join ps ++ p)).taken = ap (λ (x : Out). x.state.taken) o ∙ taken_as t (join ps ++ p) q in
     record {
-      answer = ap (λ (x : Out). x.fed.answer) o;
+      answer = ap (λ (x : Out). x.answer) o;
       counted = omega (arith, taken, counted_on ps (started t), call_counts h.state h.tables p);
       taken = taken;
       tables = ap (λ (x : Out). x.tables) o;
     }
 
 -- every number behind the records that a finished answer counts is 0
-abbrev pub ZeroBehind : declared.Head → Tables → Type 0
-ZeroBehind g t = (k : Table) (j : ℕ) → width k * rows_of k (counts (told_head (Finished g))) ≤ j → get_or (table_of k t) j 0 ≡ 0
+abbrev pub ZeroBehind : Head → Tables → Type 0
+ZeroBehind g t = (k : Table) (j : ℕ) → width k * rows_of k (counts g) ≤ j → get_or (table_of k t) j 0 ≡ 0
 
-pub zero_behind_call : (t : Tables) (ps : List (List ℕ)) (p : List ℕ) → Bytes (join ps ++ p) → (g : declared.Head) → (call t ps p).fed.answer ≡ Finished g → ZeroBehind g (call t ps p).tables
+pub zero_behind_call : (t : Tables) (ps : List (List ℕ)) (p : List ℕ) → Bytes (join ps ++ p) → (g : Head) → (call t ps p).answer ≡ layout.finished g → ZeroBehind g (call t ps p).tables
 zero_behind_call t ps p q g e k j past =
     let r = call_ends t ps p q in
     ap (λ (x : Tables). get_or (table_of k x) j 0) r.tables
-    ∙ of_layout.zero_behind (layout_sizes t) (join ps ++ p) q (told_head (Finished g)) (told_finished _ g (sym r.answer ∙ e)) k j past
+    ∙ of_layout.zero_behind (layout_sizes t) (join ps ++ p) q g (sym r.answer ∙ e) k j past
 
-pub zero_behind_end : (t : Tables) (ps : List (List ℕ)) → Bytes (join ps) → (g : declared.Head) → (finished (feeding (started t) ps)).fed.answer ≡ Finished g → ZeroBehind g (finished (feeding (started t) ps)).tables
+pub zero_behind_end : (t : Tables) (ps : List (List ℕ)) → Bytes (join ps) → (g : Head) → (finished (feeding (started t) ps)).answer ≡ layout.finished g → ZeroBehind g (finished (feeding (started t) ps)).tables
 zero_behind_end t ps q g e k j past =
     let r = finishing_reads t ps q in
     ap (λ (x : Tables). get_or (table_of k x) j 0) r.tables
-    ∙ of_layout.zero_behind_at_once (layout_sizes t) (join ps) q (told_head (Finished g)) (told_finished _ g (sym r.answer ∙ e)) k j past
+    ∙ of_layout.zero_behind_at_once (layout_sizes t) (join ps) q g (sym r.answer ∙ e) k j past
 
-pub zero_behind_once : (t : Tables) (xs : List ℕ) → Bytes xs → (g : declared.Head) → (read_once t xs).read.answer ≡ Finished g → ZeroBehind g (read_once t xs).tables
-zero_behind_once t xs q g e = of_layout.zero_behind_at_once (layout_sizes t) xs q (told_head (Finished g)) (told_finished _ g e)
+pub zero_behind_once : (t : Tables) (xs : List ℕ) → Bytes xs → (g : Head) → (read_once t xs).answer ≡ layout.finished g → ZeroBehind g (read_once t xs).tables
+zero_behind_once t xs q g e = of_layout.zero_behind_at_once (layout_sizes t) xs q g e
 
-pub zero_behind_strict : (t : Tables) (xs : List ℕ) → Bytes xs → (g : declared.Head) → (read_strict t xs).read.answer ≡ Finished g → ZeroBehind g (read_strict t xs).tables
-zero_behind_strict t xs q g e = of_layout.zero_behind_strict (layout_sizes t) xs q (told_head (Finished g)) (told_finished _ g e)
+pub zero_behind_strict : (t : Tables) (xs : List ℕ) → Bytes xs → (g : Head) → (read_strict t xs).answer ≡ layout.finished g → ZeroBehind g (read_strict t xs).tables
+zero_behind_strict t xs q g e = of_layout.zero_behind_strict (layout_sizes t) xs q g e
 
 -- ---- acceptance
 
@@ -231,8 +217,8 @@ abbrev pub shown_of : Tables → Contents → Outcome
 shown_of t x = record { answer = layout.finished (head_of x); taken = length (contents_bytes x); tables = tables_of (layout_sizes t) x }
 
 -- the answer is finished, with some head
-abbrev pub Finishes : Answer → Type 0
-Finishes a = (g : declared.Head) × (a ≡ Finished g)
+abbrev pub Finishes : layout.Answer Head → Type 0
+Finishes a = (g : Head) × (a ≡ layout.finished g)
 
 -- where the reading finishes, so does reading at once: nothing is left to finish
 once_same : (z : outcome.Sizes) (xs : List ℕ) (h : Head) → (partial z xs).answer ≡ layout.finished h → at_once z xs ≡ partial z xs
@@ -245,64 +231,64 @@ at_once_accepted t xs x b =
     let a = accepted (layout_sizes t) xs x b in
     once_same (layout_sizes t) xs (head_of x) (ap (λ (o : Outcome). o.answer) a) ∙ a
 
-at_once_begins : (t : Tables) (xs : List ℕ) → Bytes xs → (g : declared.Head) → told (at_once (layout_sizes t) xs).answer ≡ Finished g → (x : Contents) × Begins (layout_sizes t) xs x
-at_once_begins t xs q g e = begins (layout_sizes t) xs (told_head (Finished g)) q (finish_finished _ _ _ (told_finished _ g e))
+at_once_begins : (t : Tables) (xs : List ℕ) → Bytes xs → (g : Head) → (at_once (layout_sizes t) xs).answer ≡ layout.finished g → (x : Contents) × Begins (layout_sizes t) xs x
+at_once_begins t xs q g e = begins (layout_sizes t) xs g q (finish_finished _ _ _ e)
 
 -- read at once: finished exactly if the bytes begin with those of an allowed transaction for which the tables have room
-pub once_exactly : (t : Tables) (xs : List ℕ) → Bytes xs → Finishes (read_once t xs).read.answer ↔ ((x : Contents) × Begins (layout_sizes t) xs x)
-once_exactly t xs q = (λ f. at_once_begins t xs q f.0 f.1, λ b. (_, ap (λ (o : Outcome). told o.answer) (at_once_accepted t xs b.0 b.1)))
+pub once_exactly : (t : Tables) (xs : List ℕ) → Bytes xs → Finishes (read_once t xs).answer ↔ ((x : Contents) × Begins (layout_sizes t) xs x)
+once_exactly t xs q = (λ f. at_once_begins t xs q f.0 f.1, λ b. (_, ap (λ (o : Outcome). o.answer) (at_once_accepted t xs b.0 b.1)))
 
 -- and then answer, bytes taken and tables are that transaction's
-pub once_accepted : (t : Tables) (xs : List ℕ) (x : Contents) → Begins (layout_sizes t) xs x → read_once t xs ≡ whole (shown_of t x)
-once_accepted t xs x b = ap whole (at_once_accepted t xs x b)
+pub once_accepted : (t : Tables) (xs : List ℕ) (x : Contents) → Begins (layout_sizes t) xs x → read_once t xs ≡ shown_of t x
+once_accepted t xs x b = at_once_accepted t xs x b
 
 -- read strictly: exactly if the bytes are those of such a transaction, and no more
-pub strict_exactly : (t : Tables) (xs : List ℕ) → Bytes xs → Finishes (read_strict t xs).read.answer ↔ ((x : Contents) × Is (layout_sizes t) xs x)
+pub strict_exactly : (t : Tables) (xs : List ℕ) → Bytes xs → Finishes (read_strict t xs).answer ↔ ((x : Contents) × Is (layout_sizes t) xs x)
 strict_exactly t xs q = (
-  λ f. (whole_exactly (layout_sizes t) xs q).0 (told_head (Finished f.0), told_finished _ f.0 f.1),
-  λ b. (_, ap (λ (o : Outcome). told o.answer) (whole_accepted (layout_sizes t) xs b.0 b.1)),
+  λ f. (whole_exactly (layout_sizes t) xs q).0 f,
+  λ b. (_, ap (λ (o : Outcome). o.answer) (whole_accepted (layout_sizes t) xs b.0 b.1)),
 )
 
-pub strict_accepted : (t : Tables) (xs : List ℕ) (x : Contents) → Is (layout_sizes t) xs x → read_strict t xs ≡ whole (shown_of t x)
-strict_accepted t xs x i = ap whole (whole_accepted (layout_sizes t) xs x i)
+pub strict_accepted : (t : Tables) (xs : List ℕ) (x : Contents) → Is (layout_sizes t) xs x → read_strict t xs ≡ shown_of t x
+strict_accepted t xs x i = whole_accepted (layout_sizes t) xs x i
 
 -- fed in pieces from a fresh start, then finished
-pub finish_exactly : (t : Tables) (ps : List (List ℕ)) → Bytes (join ps) → Finishes (finished (feeding (started t) ps)).fed.answer ↔ ((x : Contents) × Begins (layout_sizes t) (join ps) x)
+pub finish_exactly : (t : Tables) (ps : List (List ℕ)) → Bytes (join ps) → Finishes (finished (feeding (started t) ps)).answer ↔ ((x : Contents) × Begins (layout_sizes t) (join ps) x)
 finish_exactly t ps q =
     let r = finishing_reads t ps q in (
       λ f. at_once_begins t (join ps) q f.0 (sym r.answer ∙ f.1),
-      λ b. (_, r.answer ∙ ap (λ (o : Outcome). told o.answer) (at_once_accepted t (join ps) b.0 b.1)),
+      λ b. (_, r.answer ∙ ap (λ (o : Outcome). o.answer) (at_once_accepted t (join ps) b.0 b.1)),
     )
 
 pub finish_accepted : (t : Tables) (ps : List (List ℕ)) → Bytes (join ps) → (x : Contents) → Begins (layout_sizes t) (join ps) x → Ends (counted (started t) ps) (finished (feeding (started t) ps)) (shown_of t x)
 finish_accepted t ps q x b = subst (λ (w : Outcome). Ends (counted (started t) ps) (finished (feeding (started t) ps)) w) (at_once_accepted t (join ps) x b) (finishing_reads t ps q)
 
 -- and the feeding call itself: it answers finished as soon as the bytes so far begin with a transaction, and only then
-pub call_exactly : (t : Tables) (ps : List (List ℕ)) (p : List ℕ) → Bytes (join ps ++ p) → Finishes (call t ps p).fed.answer ↔ ((x : Contents) × Begins (layout_sizes t) (join ps ++ p) x)
+pub call_exactly : (t : Tables) (ps : List (List ℕ)) (p : List ℕ) → Bytes (join ps ++ p) → Finishes (call t ps p).answer ↔ ((x : Contents) × Begins (layout_sizes t) (join ps ++ p) x)
 call_exactly t ps p q =
     let r = call_ends t ps p q in (
-      λ f. begins (layout_sizes t) (join ps ++ p) (told_head (Finished f.0)) q (told_finished _ f.0 (sym r.answer ∙ f.1)),
-      λ b. (_, r.answer ∙ ap (λ (o : Outcome). told o.answer) (accepted (layout_sizes t) (join ps ++ p) b.0 b.1)),
+      λ f. begins (layout_sizes t) (join ps ++ p) f.0 q (sym r.answer ∙ f.1),
+      λ b. (_, r.answer ∙ ap (λ (o : Outcome). o.answer) (accepted (layout_sizes t) (join ps ++ p) b.0 b.1)),
     )
 
-pub call_accepted : (t : Tables) (ps : List (List ℕ)) (p : List ℕ) → Bytes (join ps ++ p) → (x : Contents) → Begins (layout_sizes t) (join ps ++ p) x → Ends (counted (started t) ps + (call t ps p).fed.taken) (call t ps p) (shown_of t x)
-call_accepted t ps p q x b = subst (λ (w : Outcome). Ends (counted (started t) ps + (call t ps p).fed.taken) (call t ps p) w) (accepted (layout_sizes t) (join ps ++ p) x b) (call_ends t ps p q)
+pub call_accepted : (t : Tables) (ps : List (List ℕ)) (p : List ℕ) → Bytes (join ps ++ p) → (x : Contents) → Begins (layout_sizes t) (join ps ++ p) x → Ends (counted (started t) ps + (call t ps p).taken) (call t ps p) (shown_of t x)
+call_accepted t ps p q x b = subst (λ (w : Outcome). Ends (counted (started t) ps + (call t ps p).taken) (call t ps p) w) (accepted (layout_sizes t) (join ps ++ p) x b) (call_ends t ps p q)
 
 -- ---- the numbers and places of refusals
 
 -- feeding and finishing, of every state
-pub push_numbered : (s : State) (t : Tables) (xs : List ℕ) → Bytes xs → (n p : ℕ) → (pushed s t xs).fed.answer ≡ Refused n p → Numbered n p (pushed s t xs).fed.decoder.taken
+pub push_numbered : (s : State) (t : Tables) (xs : List ℕ) → Bytes xs → (n p : ℕ) → (pushed s t xs).answer ≡ layout.refused n p → Numbered n p (pushed s t xs).state.taken
 push_numbered s t xs q = numbered s t (pushed s t xs) (pushed_call s t xs q)
 
-pub end_numbered : (s : State) (t : Tables) (n p : ℕ) → (ended s t).fed.answer ≡ Refused n p → Numbered n p (ended s t).fed.decoder.taken
+pub end_numbered : (s : State) (t : Tables) (n p : ℕ) → (ended s t).answer ≡ layout.refused n p → Numbered n p (ended s t).state.taken
 end_numbered s t = numbered s t (ended s t) (ended_call s t)
 
 -- fed from a fresh start: 2 to 8, no further than the bytes fed
-pub call_numbered : (t : Tables) (ps : List (List ℕ)) (p : List ℕ) → Bytes (join ps ++ p) → (n at : ℕ) → (call t ps p).fed.answer ≡ Refused n at → (2 ≤ n) × (n ≤ 8) × (at ≤ (call t ps p).fed.decoder.taken) × ((call t ps p).fed.decoder.taken ≤ length (join ps ++ p))
+pub call_numbered : (t : Tables) (ps : List (List ℕ)) (p : List ℕ) → Bytes (join ps ++ p) → (n at : ℕ) → (call t ps p).answer ≡ layout.refused n at → (2 ≤ n) × (n ≤ 8) × (at ≤ (call t ps p).state.taken) × ((call t ps p).state.taken ≤ length (join ps ++ p))
 call_numbered t ps p q n at e =
     let c = call_ends t ps p q in
     let z = layout_sizes t in
-    omega (arith, c.taken, refusal_placed z (join ps ++ p) q n at (told_refused _ n at (sym c.answer ∙ e)), taken_there (transaction (room_of z)) (join ps ++ p))
+    omega (arith, c.taken, refusal_placed z (join ps ++ p) q n at (sym c.answer ∙ e), taken_there (transaction (room_of z)) (join ps ++ p))
 
 layout_refused : (n m p q : ℕ) → ◌≡◌ {A = layout.Answer Head} (layout.refused n p) (layout.refused m q) → (n ≡ m) × (p ≡ q)
 layout_refused n m p q e = (cc, cc)
@@ -325,15 +311,15 @@ at_once_placed : (z : outcome.Sizes) (xs : List ℕ) → Bytes xs → (n p : ℕ
 at_once_placed z xs q n p e = finish_placed (reading_of z xs).answer (reading_of z xs).taken n p (refusal_placed z xs q) e
 
 -- at once: 1 to 8, no further than the bytes taken
-pub once_numbered : (t : Tables) (xs : List ℕ) → Bytes xs → (n p : ℕ) → (read_once t xs).read.answer ≡ Refused n p → (1 ≤ n) × (n ≤ 8) × (p ≤ (read_once t xs).read.taken) × ((read_once t xs).read.taken ≤ length xs)
+pub once_numbered : (t : Tables) (xs : List ℕ) → Bytes xs → (n p : ℕ) → (read_once t xs).answer ≡ layout.refused n p → (1 ≤ n) × (n ≤ 8) × (p ≤ (read_once t xs).taken) × ((read_once t xs).taken ≤ length xs)
 once_numbered t xs q n p e =
-    omega (arith, at_once_placed (layout_sizes t) xs q n p (told_refused _ n p e), taken_there (transaction (room_of (layout_sizes t))) xs)
+    omega (arith, at_once_placed (layout_sizes t) xs q n p e, taken_there (transaction (room_of (layout_sizes t))) xs)
 
 -- strictly: 1 to 9
-pub strict_numbered : (t : Tables) (xs : List ℕ) → Bytes xs → (n p : ℕ) → (read_strict t xs).read.answer ≡ Refused n p → (1 ≤ n) × (n ≤ 9) × (p ≤ (read_strict t xs).read.taken) × ((read_strict t xs).read.taken ≤ length xs)
+pub strict_numbered : (t : Tables) (xs : List ℕ) → Bytes xs → (n p : ℕ) → (read_strict t xs).answer ≡ layout.refused n p → (1 ≤ n) × (n ≤ 9) × (p ≤ (read_strict t xs).taken) × ((read_strict t xs).taken ≤ length xs)
 strict_numbered t xs q n p e =
     let z = layout_sizes t in
-    omega (arith, follow_placed (at_once z xs).answer (reading_of z xs).taken (length xs) n p (at_once_placed z xs q) (told_refused _ n p e), taken_there (transaction (room_of z)) xs)
+    omega (arith, follow_placed (at_once z xs).answer (reading_of z xs).taken (length xs) n p (at_once_placed z xs q) e, taken_there (transaction (room_of z)) xs)
 
 -- 1 is finishing's: no field that settles refuses with it
 unfoldable one : State → Bool
@@ -377,7 +363,7 @@ fed_one [] m h = h
 fed_one (b ∷ xs) m h = fed_one xs (step m b) (step_one m b h)
 
 -- a state that answers 1
-one_stage : (s : State) (p : ℕ) → told (answer_of s) ≡ Refused 1 p → one s ≡ true
+one_stage : (s : State) (p : ℕ) → answer_of s ≡ layout.refused 1 p → one s ≡ true
 unfolding one answer_of
 one_stage s p e =
     by_cases (eqb s.field.stage 26)
@@ -391,7 +377,7 @@ unfolding one
 one_ended s e = by_cases (eqb s.field.stage 26) (λ z. z) (λ z. absurd (true≢false (sym (rw z at e))))
 
 -- so a feeding answers it only where the reading had ended with it: it takes nothing, the state is as it was, and the tables are 0
-pub one_repeated : (s : State) (t : Tables) (xs : List ℕ) (p : ℕ) → Bytes xs → (pushed s t xs).fed.answer ≡ Refused 1 p → pushed s t xs ≡ out s 0 (Refused 1 p) (cleared t)
+pub one_repeated : (s : State) (t : Tables) (xs : List ℕ) (p : ℕ) → Bytes xs → (pushed s t xs).answer ≡ layout.refused 1 p → pushed s t xs ≡ out s 0 (layout.refused 1 p) (cleared t)
 unfolding closed
 one_repeated s t xs p q e =
     by_gate s t (pushed s t xs) (pushed_call s t xs q)
@@ -400,6 +386,6 @@ one_repeated s t xs p q e =
     let stage = eqb-true s.field.stage 26 refused in
     let over : 25 ≤ s.field.stage = omega arith in
     let o = ended_repeats s t xs g over in
-    o ∙ ap₂ (λ (a : Answer) (x : Tables). out s 0 a x) (sym (ap (λ (x : Out). x.fed.answer) o) ∙ e) (rw refused))
+    o ∙ ap₂ (λ (a : layout.Answer Head) (x : Tables). out s 0 a x) (sym (ap (λ (x : Out). x.answer) o) ∙ e) (rw refused))
     (λ _ e'. absurd (omega (arith, same_number 10 1 0 p (sym e' ∙ e))))
     (λ _ e'. absurd (omega (arith, same_number 11 1 0 p (sym e' ∙ e))))

@@ -1,14 +1,16 @@
 -- The machine's definitions at each test that the code makes: by which way it went, what is left.
 use Prim.Native.Nat.{ℕ, ◌+◌, ◌-◌, ◌<◌, ◌≤◌}
-use mathlib.Core.Path.{◌≡◌, sym, ◌∙◌, ap, subst}
-use mathlib.Core.Bool.{Bool, true, false, cond, not, ◌||◌}
+use mathlib.Core.Path.{◌≡◌, refl, sym, ◌∙◌, ap, subst}
+use mathlib.Core.Bool.{Bool, true, false, cond}
 use native.Mathlib.Omega.{arith}
 use lib.Dec.{leb, eqb}
-use borrow.Author.Tests.{le-leb, lt-leb, eq-eqb, ne_eqb, eqb-false, ltb-true, ltb-false, not-true, not-false}
+use mir.Val.{bool_byte}
+use borrow.Author.Tests.{le-leb, lt-leb, eq-eqb, ne_eqb, eqb-false, eqb-true, ltb-true, ltb-false, not-true, not-false}
 use Rattle.layout.specs.Transaction.{limit, announced, least}
 use Rattle.layout.proofs.Reading.{by_cases}
-use Rattle.confidential.specs.Width.{value_width, asset_width, nonce_width}
-use Rattle.decoders.specs.Machine.{FURTHER, OPAQUE, BIG, State, field, with_field, set_index, set_inputs, set_outputs, set_left, set_null, set_empty, input_room, output_room, item_room, refuse, finished, opened, number, compact, opaque, further_input, settled, quiet, input1, input2, output2, high, low, next_input, next_output, next_input_witness, next_script_item, next_pegin_item, body_ends, emptied, body_entered, body_seen, body_opened, length_settled, inputs_counted, outputs_counted, script_counted, pegin_counted, compact_settled, first_settled, further_settled, value_part, asset_part, nonce_part, amount_next, null_keys_next, keys_next, asset_next, value_next, nonce_next, sequence_next, locktime_next, locktime_settled, little_settled, big_settled, opaque_settled, settle_by, Counted, Safe}
+use Rattle.std.specs.Prelude.{None, Some}
+use Rattle.confidential.specs.Width.{value_width, asset_width, nonce_width, listed}
+use Rattle.decoders.specs.Machine.{FURTHER, FIRST, OPAQUE, LITTLE, BIG, State, field, with_field, set_index, set_inputs, set_outputs, set_left, set_null, set_empty, input_room, output_room, item_room, refuse, finished, opened, number, compact, opaque, further_input, settled, quiet, input1, input2, output2, high, low, next_input, next_output, next_input_witness, next_script_item, next_pegin_item, body_ends, emptied, body_entered, body_seen, body_opened, length_settled, inputs_counted, outputs_counted, script_counted, pegin_counted, compact_settled, first_settled, further_settled, value_part, asset_part, nonce_part, part, part_next, amount_next, null_keys_next, keys_next, asset_next, value_next, nonce_next, sequence_next, locktime_next, locktime_settled, little_settled, big_settled, opaque_settled, settle_by}
 use Rattle.decoders.specs.Needs.{count_start, count_announces, count_long, count_settled}
 
 true_not_false : true ≡ false → ⊥
@@ -21,14 +23,6 @@ sequence_is s h = rw (eq-eqb s.spot.issuance 1 h)
 pub sequence_not : (s : State) → (s.spot.issuance ≡ 1 → ⊥) → sequence_next s ≡ next_input (further_input s)
 unfolding sequence_next
 sequence_not s h = rw (ne_eqb s.spot.issuance 1 h)
-
-pub amount_is : (s : State) → s.field.value ≡ 0 → amount_next s ≡ number 10 1 (set_null 1 s)
-unfolding amount_next
-amount_is s h = rw (eq-eqb s.field.value 0 h)
-
-pub amount_not : (s : State) → (s.field.value ≡ 0 → ⊥) → amount_next s ≡ value_part (set_null 0 s)
-unfolding amount_next
-amount_not s h = rw (ne_eqb s.field.value 0 h)
 
 pub null_keys_is : (s : State) → s.spot.null ≡ 1 → null_keys_next s ≡ refuse 6 (s.taken - 66) s
 unfolding null_keys_next
@@ -46,29 +40,75 @@ pub keys_not : (s : State) → (s.field.value ≡ 0 → ⊥) → keys_next s ≡
 unfolding keys_next
 keys_not s h = rw (ne_eqb s.field.value 0 h)
 
-pub asset_is : (s : State) → s.field.value ≡ 0 → asset_next s ≡ number 13 1 s
-unfolding asset_next
-asset_is s h = rw (eq-eqb s.field.value 0 h)
+-- a width in code: the one it is, or 0
+told_width : (w n : ℕ) → listed w ≡ Some n → w ≡ n
+told_width w n = by_cases (eqb w 0) (λ t. rw t (λ e. cc)) (λ t. rw t (λ e. cc))
 
-pub asset_not : (s : State) → (s.field.value ≡ 0 → ⊥) → asset_next s ≡ asset_part s
-unfolding asset_next
-asset_not s h = rw (ne_eqb s.field.value 0 h)
+told_none : (w : ℕ) → listed w ≡ None → w ≡ 0
+told_none w = by_cases (eqb w 0) (λ t e. eqb-true w 0 t) (λ t. rw t (λ e. cc))
 
-pub value_is : (s : State) → s.field.value ≡ 0 → value_next s ≡ number 14 1 s
-unfolding value_next
-value_is s h = rw (eq-eqb s.field.value 0 h)
+pub part_explicit : (w n : ℕ) (s : State) → listed w ≡ Some n → n ≡ 9 → part w s ≡ opened s.taken s.field.stage BIG 8 s
+unfolding part
+part_explicit w n s e h = rw (told_width w n e ∙ h)
 
-pub value_not : (s : State) → (s.field.value ≡ 0 → ⊥) → value_next s ≡ value_part s
-unfolding value_next
-value_not s h = rw (ne_eqb s.field.value 0 h)
+pub part_commitment : (w n : ℕ) (s : State) → listed w ≡ Some n → n ≡ 33 → part w s ≡ opaque s.field.stage s
+unfolding part
+part_commitment w n s e h = rw (told_width w n e ∙ h)
 
-pub nonce_is : (s : State) → s.field.value ≡ 0 → nonce_next s ≡ compact 15 s
-unfolding nonce_next
-nonce_is s h = rw (eq-eqb s.field.value 0 h)
+pub part_other : (w n : ℕ) (s : State) → listed w ≡ Some n → (n ≡ 9 → ⊥) → (n ≡ 33 → ⊥) → part w s ≡ refuse 5 (s.taken - 1) s
+unfolding part
+part_other w n s e h h' = rw (told_width w n e, ne_eqb n 9 h, ne_eqb n 33 h')
 
-pub nonce_not : (s : State) → (s.field.value ≡ 0 → ⊥) → nonce_next s ≡ nonce_part s
-unfolding nonce_next
-nonce_not s h = rw (ne_eqb s.field.value 0 h)
+pub part_unlisted : (w : ℕ) (s : State) → listed w ≡ None → part w s ≡ refuse 5 (s.taken - 1) s
+unfolding part
+part_unlisted w s e = rw (told_none w e)
+
+pub part_null : (w stage form : ℕ) (s : State) → s.field.value ≡ 0 → part_next w stage form s ≡ opened s.taken stage form 1 s
+unfolding part_next
+part_null w stage form s h = rw (eq-eqb s.field.value 0 h)
+
+pub part_some : (w stage form : ℕ) (s : State) → (s.field.value ≡ 0 → ⊥) → part_next w stage form s ≡ part w s
+unfolding part_next
+part_some w stage form s h = rw (ne_eqb s.field.value 0 h)
+
+-- of each of the three; an asset's or nonce's width is never 9
+pub value_part_lem : (s : State) → part (value_width s.field.value) s ≡ value_part s
+unfolding part value_part
+value_part_lem s = refl
+
+not_nine : (null listed : Bool) → eqb (cond null 1 (cond listed 33 0)) 9 ≡ false
+not_nine true _ = refl
+not_nine false true = refl
+not_nine false false = refl
+
+asset_part_lem : (s : State) → part (asset_width s.field.value) s ≡ asset_part s
+unfolding part asset_part
+asset_part_lem s = rw (not_nine (eqb s.field.value 0) _)
+
+nonce_part_lem : (s : State) → part (nonce_width s.field.value) s ≡ nonce_part s
+unfolding part nonce_part
+nonce_part_lem s = rw (not_nine (eqb s.field.value 0) _)
+
+-- the three that call part_next are it, at their width and the field that follows
+pub asset_next_lem : (s : State) → part_next (asset_width s.field.value) 13 LITTLE s ≡ asset_next s
+unfolding part_next asset_next
+asset_next_lem s = ap (cond (eqb s.field.value 0) (number 13 1 s)) (asset_part_lem s)
+
+pub value_next_lem : (s : State) → part_next (value_width s.field.value) 14 LITTLE s ≡ value_next s
+unfolding part_next value_next
+value_next_lem s = ap (cond (eqb s.field.value 0) (number 14 1 s)) (value_part_lem s)
+
+pub nonce_next_lem : (s : State) → part_next (nonce_width s.field.value) 15 FIRST s ≡ nonce_next s
+unfolding part_next nonce_next
+nonce_next_lem s = ap (cond (eqb s.field.value 0) (compact 15 s)) (nonce_part_lem s)
+
+null_kept : (null : Bool) (w : ℕ) (s : State) → let t = set_null (bool_byte null) s in cond null (number 10 1 t) (part w t) ≡ cond null (number 10 1 (set_null 1 s)) (part w (set_null 0 s))
+null_kept true w s = refl
+null_kept false w s = refl
+
+pub amount_next_lem : (n : ℕ) (s : State) → n ≡ bool_byte (eqb s.field.value 0) → part_next (value_width s.field.value) 10 LITTLE (set_null n s) ≡ amount_next s
+unfolding part_next amount_next
+amount_next_lem n s e = rw e (null_kept (eqb s.field.value 0) _ s ∙ ap (cond (eqb s.field.value 0) (number 10 1 (set_null 1 s))) (value_part_lem (set_null 0 s)))
 
 pub emptied_is : (n : ℕ) (s : State) → n ≡ 0 → emptied n s ≡ s
 unfolding emptied
@@ -86,33 +126,8 @@ pub body_opened_not : (stage n : ℕ) (s : State) → (n ≡ 0 → ⊥) → body
 unfolding body_opened
 body_opened_not stage n s h = rw (ne_eqb (n) 0 h)
 
-pub asset_part_is : (s : State) → asset_width s.field.value ≡ 33 → asset_part s ≡ opaque s.field.stage s
-unfolding asset_part
-asset_part_is s h = rw (eq-eqb (asset_width s.field.value) 33 h)
-
-pub asset_part_not : (s : State) → (asset_width s.field.value ≡ 33 → ⊥) → asset_part s ≡ refuse 5 (s.taken - 1) s
-unfolding asset_part
-asset_part_not s h = rw (ne_eqb (asset_width s.field.value) 33 h)
-
-pub nonce_part_is : (s : State) → nonce_width s.field.value ≡ 33 → nonce_part s ≡ opaque s.field.stage s
-unfolding nonce_part
-nonce_part_is s h = rw (eq-eqb (nonce_width s.field.value) 33 h)
-
-pub nonce_part_not : (s : State) → (nonce_width s.field.value ≡ 33 → ⊥) → nonce_part s ≡ refuse 5 (s.taken - 1) s
-unfolding nonce_part
-nonce_part_not s h = rw (ne_eqb (nonce_width s.field.value) 33 h)
-
-pub value_part_explicit : (s : State) → value_width s.field.value ≡ 9 → value_part s ≡ opened s.taken s.field.stage BIG 8 s
-unfolding value_part
-value_part_explicit s h = rw (eq-eqb (value_width s.field.value) 9 h)
-
-pub value_part_commitment : (s : State) → (value_width s.field.value ≡ 9 → ⊥) → value_width s.field.value ≡ 33 → value_part s ≡ opaque s.field.stage s
-unfolding value_part
-value_part_commitment s h h' = rw (ne_eqb (value_width s.field.value) 9 h, eq-eqb (value_width s.field.value) 33 h')
-
-pub value_part_unlisted : (s : State) → (value_width s.field.value ≡ 9 → ⊥) → (value_width s.field.value ≡ 33 → ⊥) → value_part s ≡ refuse 5 (s.taken - 1) s
-unfolding value_part
-value_part_unlisted s h h' = rw (ne_eqb (value_width s.field.value) 9 h, ne_eqb (value_width s.field.value) 33 h')
+pub body_opened_default : (stage n h v : ℕ) (s : State) → h ≡ 0 → v ≡ 0 → (n ≡ 0 → ⊥) → with_field (field stage OPAQUE n h v) s ≡ body_opened stage n s
+body_opened_default stage n h v s eh ev some = (λ j. with_field (field stage OPAQUE n (eh j) (ev j)) s) ∙ sym (body_opened_not stage n s some)
 
 pub locktime_plain : (s : State) → s.counts.flag ≡ 0 → locktime_next s ≡ finished s
 unfolding locktime_next
@@ -182,23 +197,6 @@ pub further_longer : (s : State) → leb (least s.field.width) s.field.value ≡
 unfolding further_settled
 further_longer s h = rw h
 
--- what is kept where only the witnesses' emptiness changes
-pub emptied_limit : (n : ℕ) (s r : State) → r ≡ emptied n s → s.taken ≤ limit → r.taken ≤ limit
-unfolding emptied
-emptied_limit n s r e h = by_cases (eqb n 0) (λ t. subst (λ (x : State). x.taken ≤ limit) (sym (rw t at e)) h) (λ t. subst (λ (x : State). x.taken ≤ limit) (sym (rw t at e)) h)
-
-pub emptied_counted : (n : ℕ) (s r : State) → r ≡ emptied n s → Counted s → Counted r
-unfolding emptied
-emptied_counted n s r e h = by_cases (eqb n 0) (λ t. subst Counted (sym (rw t at e)) h) (λ t. subst Counted (sym (rw t at e)) (omega (arith, h)))
-
-emptied_safe : (n : ℕ) (s : State) → Safe s → Safe (emptied n s)
-unfolding emptied
-emptied_safe n s h = by_cases (eqb n 0) (λ t. rw t h) (λ t. rw t (omega (arith, h)))
-
-pub seen_safe : (stage n : ℕ) (s r : State) → r ≡ body_seen stage n s → Safe s → Safe r
-unfolding body_seen
-seen_safe stage n s r e h = by_cases (eqb stage 17 || eqb stage 18 || eqb stage 23 || eqb stage 24) (λ t. subst Safe (sym (rw t at e)) (emptied_safe n s h)) (λ t. subst Safe (sym (rw t at e)) h)
-
 pub little_by : (stage k : ℕ) (s : State) → stage ≡ k → little_settled stage s ≡ little_settled k s
 little_by stage k s e = ap (λ (x : ℕ). little_settled x s) e
 
@@ -240,9 +238,6 @@ form_rest stage s h h2 h3 =
 pub start_further : (form width taken a b : ℕ) → form ≡ 0 → a ≡ taken - width → b ≡ a - 1 → b ≡ count_start form width taken
 start_further form width taken a b z e f = subst (λ (x : ℕ). x ≡ count_start form width taken) (sym (f ∙ ap (λ (y : ℕ). y - 1) e)) (rw (eq-eqb form 0 z))
 
-pub long_further : (form width n : ℕ) (b : Bool) → form ≡ 0 → b ≡ leb (least width) n → not b ≡ count_long form width n
-long_further form width n b z e = subst (λ (x : Bool). not x ≡ count_long form width n) (sym e) (rw (eq-eqb form 0 z))
-
 -- a count or length, by what is known of it
 pub count_announces_lem : (form : ℕ) (s : State) → count_announces form s.field.value ≡ true → count_settled form s ≡ quiet (opened (count_start form s.field.width s.taken) s.field.stage FURTHER (announced s.field.value) s)
 count_announces_lem form s h =
@@ -269,10 +264,23 @@ pub compact_rest : (stage : ℕ) (start n : ℕ) (s : State) → (stage ≡ 2 �
 unfolding compact_settled
 compact_rest stage start n s h2 h11 h19 h21 = rw (ne_eqb stage 2 h2, ne_eqb stage 11 h11, ne_eqb stage 19 h19, ne_eqb stage 21 h21)
 
-pub seen_by : (stage k : ℕ) (n : ℕ) (s : State) → stage ≡ k → body_seen stage n s ≡ body_seen k n s
-seen_by stage k n s e = ap (λ (x : ℕ). body_seen x n s) e
+pub seen_early : (stage n : ℕ) (s : State) → 17 ≤ stage → stage < 19 → emptied n s ≡ body_seen stage n s
+unfolding body_seen
+seen_early stage n s l h =
+    by_cases (eqb stage 17)
+    (λ e. rw e)
+    (λ e. let z : stage ≡ 17 → ⊥ = eqb-false stage 17 e in let k : stage ≡ 18 = omega (arith, z) in rw (e, eq-eqb stage 18 k))
 
-pub seen_rest : (stage : ℕ) (n : ℕ) (s : State) → (stage ≡ 17 → ⊥) → (stage ≡ 18 → ⊥) → (stage ≡ 23 → ⊥) → (stage ≡ 24 → ⊥) → body_seen stage n s ≡ s
+pub seen_late : (stage n : ℕ) (s : State) → 23 ≤ stage → stage < 25 → emptied n s ≡ body_seen stage n s
+unfolding body_seen
+seen_late stage n s l h =
+    let a : stage ≡ 17 → ⊥ = λ q. omega (arith, q) in
+    let b : stage ≡ 18 → ⊥ = λ q. omega (arith, q) in
+    by_cases (eqb stage 23)
+    (λ e. rw (ne_eqb stage 17 a, ne_eqb stage 18 b, e))
+    (λ e. let z : stage ≡ 23 → ⊥ = eqb-false stage 23 e in let k : stage ≡ 24 = omega (arith, z) in rw (ne_eqb stage 17 a, ne_eqb stage 18 b, e, eq-eqb stage 24 k))
+
+pub seen_rest : (stage : ℕ) (n : ℕ) (s : State) → (stage ≡ 17 → ⊥) → (stage ≡ 18 → ⊥) → (stage ≡ 23 → ⊥) → (stage ≡ 24 → ⊥) → s ≡ body_seen stage n s
 unfolding body_seen
 seen_rest stage n s h17 h18 h23 h24 = rw (ne_eqb stage 17 h17, ne_eqb stage 18 h18, ne_eqb stage 23 h23, ne_eqb stage 24 h24)
 

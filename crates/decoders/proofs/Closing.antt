@@ -1,29 +1,43 @@
 -- Where a call starts and ends: the definitions at each test that the code makes.
 use Prim.Native.Nat.{ℕ, ◌<◌, ◌≤◌}
-use mathlib.Core.Path.{◌≡◌, ap, ap₂}
-use mathlib.Core.Bool.{Bool, true, false, cond, ◌&&◌}
+use mathlib.Core.Path.{◌≡◌, refl, ◌∙◌, ap, ap₂}
+use mathlib.Core.Bool.{Bool, true, false, ◌&&◌}
 use native.Mathlib.Omega.{arith}
+use lib.Dec.{eqb}
 use borrow.Author.Tests.{le-leb, lt-leb, lt-ltb, le-ltb, eq-eqb, ne_eqb}
+use Rattle.layout.specs.Layout as layout
+use Rattle.layout.specs.Transaction as transaction
 use Rattle.layout.specs.Outcome.{Tables}
+use Rattle.encode.specs.declared.refusal.Refusal.{Refusal}
+use Rattle.encode.specs.declared.refusal.RefusalKind.{RefusalKind}
+use Rattle.encode.specs.Refusal.{number_of}
+use Rattle.encode.proofs.Refusals.{kind_of, number_of_kind}
 use Rattle.decoders.specs.declared.Head.{Head}
-use Rattle.decoders.specs.declared.Answer.{Answer}
+use Rattle.decoders.specs.declared.Sizes.{Sizes}
 use Rattle.decoders.specs.declared.Answer.TheVariants.{Finished, More, Refused}
 use Rattle.decoders.specs.Machine.{State, refuse, answer_of}
 use Rattle.decoders.specs.Range.{in_range}
-use Rattle.decoders.specs.Feeding.{told, sizes, out, cleared, gate, finish, follow, closed}
-use Rattle.decoders.specs.Needs.{head_told, Closes}
-use Rattle.decoders.proofs.Ranges.{range_finished}
+use Rattle.decoders.specs.Feeding.{told, out, cleared, gate, finish, follow, closed}
+use Rattle.decoders.specs.Needs.{head_told, Listed, Closes}
+use Rattle.decoders.proofs.Ranges.{range_finished, range_refused}
+
+-- three tests, the first two together and the last two
+in_turn : (a b c : Bool) → (a && b && c) ≡ (a && (b && c))
+in_turn true b c = refl
+in_turn false b c = refl
 
 module _ (s : State) where
-  pub told_finished : (h : Head) → s.field.stage ≡ 25 → h ≡ head_told s → Finished h ≡ told (answer_of s)
+  pub told_finished : (h : Head) → s.field.stage ≡ 25 → h ≡ head_told s → told (Finished h) ≡ answer_of s
   unfolding answer_of
-  told_finished h e q = rw (eq-eqb s.field.stage 25 e) (ap Finished q)
+  told_finished h e q = rw (eq-eqb s.field.stage 25 e) (ap (λ (x : Head). told (Finished x)) q)
 
-  pub told_refused : s.field.stage ≡ 26 → Refused s.field.value s.field.have ≡ told (answer_of s)
+  pub told_refused : (r : Refusal) (k : RefusalKind) → s.field.stage ≡ 26 → number_of k ≡ s.field.value → r.kind ≡ k → r.place ≡ s.field.have → told (Refused r) ≡ answer_of s
   unfolding answer_of
-  told_refused e = let not_25 : s.field.stage ≡ 25 → ⊥ = λ q. omega arith in rw (ne_eqb s.field.stage 25 not_25, eq-eqb s.field.stage 26 e)
+  told_refused r k e n q p =
+      let not_25 : s.field.stage ≡ 25 → ⊥ = λ z. omega arith in
+      rw (ne_eqb s.field.stage 25 not_25, eq-eqb s.field.stage 26 e) (ap₂ (λ (a b : ℕ). layout.refused a b) (ap number_of q ∙ n) p)
 
-  pub told_more : (s.field.stage ≡ 25 → ⊥) → (s.field.stage ≡ 26 → ⊥) → More ≡ told (answer_of s)
+  pub told_more : (s.field.stage ≡ 25 → ⊥) → (s.field.stage ≡ 26 → ⊥) → told More ≡ answer_of s
   unfolding answer_of
   told_more a b = rw (ne_eqb s.field.stage 25 a, ne_eqb s.field.stage 26 b)
 
@@ -47,42 +61,35 @@ module _ (s : State) where
   unfolding follow
   follow_not there e = rw (ne_eqb s.field.stage 25 e)
 
-  pub closed_refused : (n : ℕ) (a : Answer) (t t' : Tables) → s.field.stage ≡ 26 → a ≡ told (answer_of s) → t' ≡ cleared t → out s n a t' ≡ closed s n t
+  pub closed_refused : (n : ℕ) (a : layout.Answer transaction.Head) (t t' : Tables) → s.field.stage ≡ 26 → a ≡ answer_of s → t' ≡ cleared t → out s n a t' ≡ closed s n t
   unfolding closed
-  closed_refused n a t t' e qa qt = rw (eq-eqb s.field.stage 26 e) (ap₂ (λ (x : Answer) (y : Tables). out s n x y) qa qt)
+  closed_refused n a t t' e qa qt = rw (eq-eqb s.field.stage 26 e) (ap₂ (λ (x : layout.Answer transaction.Head) (y : Tables). out s n x y) qa qt)
 
-  pub closed_kept : (n : ℕ) (a : Answer) (t : Tables) → (s.field.stage ≡ 26 → ⊥) → a ≡ told (answer_of s) → out s n a t ≡ closed s n t
+  pub closed_kept : (n : ℕ) (a : layout.Answer transaction.Head) (t : Tables) → (s.field.stage ≡ 26 → ⊥) → a ≡ answer_of s → out s n a t ≡ closed s n t
   unfolding closed
-  closed_kept n a t e qa = rw (ne_eqb s.field.stage 26 e) (ap (λ (x : Answer). out s n x t) qa)
+  closed_kept n a t e qa = rw (ne_eqb s.field.stage 26 e) (ap (λ (x : layout.Answer transaction.Head). out s n x t) qa)
 
   -- the gate: 11, then 10
-  module _ (i o n : ℕ) where
-    pub gate_range : in_range s ≡ false → 11 ≡ gate s (sizes i o n)
+  module _ (z : Sizes) where
+    pub gate_range : in_range s ≡ false → 11 ≡ gate s z
     unfolding gate
     gate_range e = rw e
 
-    gate_sizes : Bool → Bool → Bool → ℕ
-    gate_sizes a b c = cond (a && b && c) 0 10
-
-    pub gate_inputs : in_range s ≡ true → (s.sizes.inputs ≡ i → ⊥) → 10 ≡ gate s (sizes i o n)
+    pub gate_differs : in_range s ≡ true → (eqb s.sizes.inputs z.inputs && (eqb s.sizes.outputs z.outputs && eqb s.sizes.items z.items)) ≡ false → 10 ≡ gate s z
     unfolding gate
-    gate_inputs e h = rw (e, ne_eqb s.sizes.inputs i h)
+    gate_differs e d = rw (e, in_turn (eqb s.sizes.inputs z.inputs) (eqb s.sizes.outputs z.outputs) (eqb s.sizes.items z.items), d)
 
-    pub gate_outputs : in_range s ≡ true → s.sizes.inputs ≡ i → (s.sizes.outputs ≡ o → ⊥) → 10 ≡ gate s (sizes i o n)
+    pub gate_open : in_range s ≡ true → (eqb s.sizes.inputs z.inputs && (eqb s.sizes.outputs z.outputs && eqb s.sizes.items z.items)) ≡ true → gate s z ≡ 0
     unfolding gate
-    gate_outputs e h h' = rw (e, eq-eqb s.sizes.inputs i h, ne_eqb s.sizes.outputs o h')
+    gate_open e d = rw (e, in_turn (eqb s.sizes.inputs z.inputs) (eqb s.sizes.outputs z.outputs) (eqb s.sizes.items z.items), d)
 
-    pub gate_items : in_range s ≡ true → s.sizes.inputs ≡ i → s.sizes.outputs ≡ o → (s.sizes.items ≡ n → ⊥) → 10 ≡ gate s (sizes i o n)
-    unfolding gate
-    gate_items e h h' h'' = rw (e, eq-eqb s.sizes.inputs i h, eq-eqb s.sizes.outputs o h', ne_eqb s.sizes.items n h'')
-
-    pub gate_open : in_range s ≡ true → s.sizes.inputs ≡ i → s.sizes.outputs ≡ o → s.sizes.items ≡ n → 0 ≡ gate s (sizes i o n)
-    unfolding gate
-    gate_open e h h' h'' = rw (e, eq-eqb s.sizes.inputs i h, eq-eqb s.sizes.outputs o h', eq-eqb s.sizes.items n h'')
-
-  -- a finished state within its range has a head that fits
+  -- a finished state within its range has a head that fits, a refused one a number that is a kind's
   pub range_closes : in_range s ≡ true → Closes s
-  range_closes e = record { headed = λ q. let f = range_finished s e q in omega (arith, f.taken, f.version, f.flag, f.few_inputs, f.few_outputs, f.few_items, f.locktime) }
+  range_closes e =
+      record {
+        headed = λ q. let f = range_finished s e q in omega (arith, f.taken, f.version, f.flag, f.few_inputs, f.few_outputs, f.few_items, f.locktime);
+        listed = λ q. let r = range_refused s e q in (kind_of s.field.value, number_of_kind s.field.value r.least (omega (arith, r.greatest)));
+      }
 
-  pub refused_closes : s.field.stage ≡ 26 → Closes s
-  refused_closes e = record { headed = λ q. absurd (omega arith) }
+  pub refused_closes : s.field.stage ≡ 26 → Listed s.field.value → Closes s
+  refused_closes e k = record { headed = λ q. absurd (omega arith); listed = λ _. k }

@@ -12,15 +12,18 @@ use Rattle.layout.specs.Number.{Bytes}
 use Rattle.layout.specs.Layout as layout
 use Rattle.layout.specs.Transaction.{Head}
 use Rattle.layout.specs.Outcome as outcome
-use Rattle.layout.specs.Outcome.{Tables, laid, shown}
+use Rattle.layout.specs.Outcome.{Tables, Outcome, laid, shown}
+use Rattle.encode.specs.declared.refusal.RefusalKind.{RefusalKind}
+use Rattle.encode.specs.declared.refusal.RefusalKind.TheVariants.{BytesFollow}
+use Rattle.encode.specs.Refusal.{number_of}
+use Rattle.encode.proofs.Refusals.{number_some}
 use Rattle.layout.proofs.Reading.{by_cases}
-use Rattle.decoders.specs.declared.Answer.{Answer}
-use Rattle.decoders.specs.declared.Answer.TheVariants.{Refused}
 use Rattle.decoders.specs.declared.Fed.{Fed}
+use Rattle.decoders.specs.declared.Sizes.{Sizes}
 use Rattle.decoders.specs.Machine.{State, refuse, answer_of, machine, Machine, fed, fresh}
 use Rattle.decoders.specs.Range.{in_range}
-use Rattle.decoders.specs.Feeding.{sizes_of, cleared, begun, told, Out, out, out_of, whole_of, read_once, read_strict, gate, closed, pushed, ended, finish, follow}
-use Rattle.decoders.specs.Needs.{Starts, Closes}
+use Rattle.decoders.specs.Feeding.{sizes_of, cleared, begun, Out, out, out_of, read_once, read_strict, gate, closed, pushed, ended, finish, follow}
+use Rattle.decoders.specs.Needs.{misused, Starts, Closes, through, outcome_of}
 use Rattle.decoders.proofs.Feeds.{fed_range}
 use Rattle.decoders.proofs.Ranges.{fresh_range, finish_range}
 use Rattle.decoders.proofs.Closing.{range_closes, refused_closes}
@@ -35,53 +38,63 @@ gate_passes true true false d e = absurd (omega arith)
 gate_passes true false c d e = absurd (omega arith)
 gate_passes false a c d e = absurd (omega arith)
 
-pub gate_starts : (s : State) (t : Tables) (g : ℕ) → g ≡ gate s (sizes_of t) → g ≡ 0 → Starts s t
+pub gate_starts : (s : State) (t : Tables) → gate s (sizes_of t) ≡ 0 → Starts s t
 unfolding gate
-gate_starts s t g e z =
-    let p = gate_passes (in_range s) (eqb s.sizes.inputs (length t.inputs)) (eqb s.sizes.outputs (length t.outputs)) (eqb s.sizes.items (length t.items)) (sym e ∙ z) in
+gate_starts s t z =
+    let p = gate_passes (in_range s) (eqb s.sizes.inputs (length t.inputs)) (eqb s.sizes.outputs (length t.outputs)) (eqb s.sizes.items (length t.items)) z in
     let i = eqb-true s.sizes.inputs (length t.inputs) p.1 in
     let o = eqb-true s.sizes.outputs (length t.outputs) p.2 in
     let n = eqb-true s.sizes.items (length t.items) p.3 in
     record { range = p.0; sizes = λ j. record { inputs = i j; outputs = o j; items = n j } }
 
-module _ (s : State) (t : Tables) (g : ℕ) (e : g ≡ gate s (sizes_of t)) where
-  pub pushed_misused : (xs : List ℕ) → (g ≡ 0 → ⊥) → out s 0 (Refused g 0) t ≡ pushed s t xs
-  unfolding pushed
-  pushed_misused xs h =
-      ap (λ (x : ℕ). out s 0 (Refused x 0) t) e
-      ∙ sym (ap (λ (b : Bool). cond b (closed (fed (machine s t) xs).state ((fed (machine s t) xs).state.taken - s.taken) (fed (machine s t) xs).tables) (out s 0 (Refused (gate s (sizes_of t)) 0) t)) (ne_eqb (gate s (sizes_of t)) 0 (λ q. h (e ∙ q))))
-
-  pub ended_misused : (g ≡ 0 → ⊥) → out s 0 (Refused g 0) t ≡ ended s t
-  unfolding ended
-  ended_misused h =
-      ap (λ (x : ℕ). out s 0 (Refused x 0) t) e
-      ∙ sym (ap (λ (b : Bool). cond b (closed (finish s) 0 t) (out s 0 (Refused (gate s (sizes_of t)) 0) t)) (ne_eqb (gate s (sizes_of t)) 0 (λ q. h (e ∙ q))))
-
-  -- feeding: the state and tables that the loop leaves
-  pub pushed_closed : (xs : List ℕ) (s' : State) (t' : Tables) (n : ℕ) (o : Out) → g ≡ 0 → machine s' t' ≡ fed (machine s t) xs → n ≡ s'.taken - s.taken → o ≡ closed s' n t' → o ≡ pushed s t xs
-  unfolding pushed
-  pushed_closed xs s' t' n o z em en eo =
-      eo
-      ∙ ap (λ (k : ℕ). closed s' k t') en
-      ∙ ap (λ (m : Machine). closed m.state (m.state.taken - s.taken) m.tables) em
-      ∙ sym (ap (λ (b : Bool). cond b (closed (fed (machine s t) xs).state ((fed (machine s t) xs).state.taken - s.taken) (fed (machine s t) xs).tables) (out s 0 (Refused (gate s (sizes_of t)) 0) t)) (eq-eqb (gate s (sizes_of t)) 0 (sym e ∙ z)))
-
-  pub pushed_closes : (xs : List ℕ) → Bytes xs → (s' : State) (t' : Tables) → g ≡ 0 → machine s' t' ≡ fed (machine s t) xs → Closes s'
-  pushed_closes xs q s' t' z em = range_closes s' (subst (λ (m : Machine). in_range m.state ≡ true) (sym em) (fed_range (machine s t) xs q (gate_starts s t g e z).range))
-
-  pub ended_closed : (s' : State) (o : Out) → g ≡ 0 → s' ≡ finish s → o ≡ closed s' 0 t → o ≡ ended s t
-  unfolding ended
-  ended_closed s' o z es eo =
-      eo
-      ∙ ap (λ (x : State). closed x 0 t) es
-      ∙ sym (ap (λ (b : Bool). cond b (closed (finish s) 0 t) (out s 0 (Refused (gate s (sizes_of t)) 0) t)) (eq-eqb (gate s (sizes_of t)) 0 (sym e ∙ z)))
-
 pub finish_closes : (s : State) → in_range s ≡ true → in_range (finish s) ≡ true
 unfolding finish
 finish_closes s h = by_cases (leb 25 s.field.stage) (λ q. rw q h) (λ q. rw q (finish_range s h (omega (arith, leb-false 25 s.field.stage q))))
 
-pub ended_closes : (s : State) (t : Tables) (g : ℕ) → g ≡ gate s (sizes_of t) → g ≡ 0 → (s' : State) → s' ≡ finish s → Closes s'
-ended_closes s t g e z s' es = range_closes s' (subst (λ (x : State). in_range x ≡ true) (sym es) (finish_closes s (gate_starts s t g e z).range))
+-- the tables that are lent, by their sizes z
+module _ (s : State) (t : Tables) (z : Sizes) (lent : z ≡ sizes_of t) where
+  gate_lent : gate s z ≡ gate s (sizes_of t)
+  gate_lent = ap (λ (x : Sizes). gate s x) lent
+
+  -- a misuse, by its kind: no kind has number 0
+  module _ (k : RefusalKind) (e : number_of k ≡ gate s z) where
+    shut : gate s (sizes_of t) ≡ 0 → ⊥
+    shut q = omega (arith, number_some k, e, gate_lent)
+
+    pub pushed_misused : (xs : List ℕ) (r : Fed) → r ≡ misused k s → out_of r t ≡ pushed s t xs
+    unfolding pushed
+    pushed_misused xs r er =
+        ap (λ (x : Fed). out_of x t) er
+        ∙ rw (ne_eqb (gate s (sizes_of t)) 0 shut) (ap (λ (n : ℕ). out s 0 (layout.refused n 0) t) (e ∙ gate_lent))
+
+    pub ended_misused : (r : Fed) → r ≡ misused k s → out_of r t ≡ ended s t
+    unfolding ended
+    ended_misused r er =
+        ap (λ (x : Fed). out_of x t) er
+        ∙ rw (ne_eqb (gate s (sizes_of t)) 0 shut) (ap (λ (n : ℕ). out s 0 (layout.refused n 0) t) (e ∙ gate_lent))
+
+  module _ (g : gate s z ≡ 0) where
+    passed : gate s (sizes_of t) ≡ 0
+    passed = sym gate_lent ∙ g
+
+    pub pushed_starts : Starts s t
+    pushed_starts = gate_starts s t passed
+
+    -- feeding: the state and tables that the loop leaves
+    pub pushed_closed : (xs : List ℕ) (s' : State) (t' : Tables) (n : ℕ) (o : Out) → machine s' t' ≡ fed (machine s t) xs → n ≡ s'.taken - s.taken → o ≡ closed s' n t' → o ≡ pushed s t xs
+    unfolding pushed
+    pushed_closed xs s' t' n o em en eo =
+        rw (eq-eqb (gate s (sizes_of t)) 0 passed) (eo ∙ ap (λ (k : ℕ). closed s' k t') en ∙ ap (λ (m : Machine). closed m.state (m.state.taken - s.taken) m.tables) em)
+
+    pub pushed_closes : (xs : List ℕ) → Bytes xs → (s' : State) (t' : Tables) → machine s' t' ≡ fed (machine s t) xs → Closes s'
+    pushed_closes xs q s' t' em = range_closes s' (subst (λ (m : Machine). in_range m.state ≡ true) (sym em) (fed_range (machine s t) xs q pushed_starts.range))
+
+    pub ended_closed : (s' : State) (o : Out) → s' ≡ finish s → o ≡ closed s' 0 t → o ≡ ended s t
+    unfolding ended
+    ended_closed s' o es eo = rw (eq-eqb (gate s (sizes_of t)) 0 passed) (eo ∙ ap (λ (x : State). closed x 0 t) es)
+
+    pub ended_closes : (s' : State) → s' ≡ finish s → Closes s'
+    ended_closes s' es = range_closes s' (subst (λ (x : State). in_range x ≡ true) (sym es) (finish_closes s pushed_starts.range))
 
 -- ---- reading at once
 
@@ -89,7 +102,7 @@ follow_closes : (there : ℕ) (s : State) → Closes s → Closes (follow there 
 unfolding follow
 follow_closes there s h =
     by_cases (eqb s.field.stage 25)
-    (λ p. by_cases (ltb s.taken there) (λ l. rw (p, l) (refused_closes (refuse 9 s.taken s) refl)) (λ l. rw (p, l) h))
+    (λ p. by_cases (ltb s.taken there) (λ l. rw (p, l) (refused_closes (refuse 9 s.taken s) refl (BytesFollow, refl))) (λ l. rw (p, l) h))
     (λ p. rw p h)
 
 begun_starts : (t : Tables) → Starts (fresh (sizes_of t)) (cleared t)
@@ -97,54 +110,46 @@ begun_starts t =
     let l = zero_lengths t in
     record { range = fresh_range (sizes_of t); sizes = λ j. record { inputs = sym l.inputs j; outputs = sym l.outputs j; items = sym l.items j } }
 
--- a result by its parts
-whole_parts : (f : Fed) (t₃ : Tables) (s : State) (n : ℕ) (a : Answer) (t : Tables) (m : ℕ) → out_of f t₃ ≡ out s n a t → n ≡ m → whole_of (record { taken = f.taken; answer = f.answer }) t₃ ≡ record { read = record { taken = m; answer = a }; tables = t }
-whole_parts f t₃ s n a t m e en = ap (λ (o : Out). whole_of (record { taken = o.fed.taken; answer = o.fed.answer }) o.tables) e ∙ ap (λ (k : ℕ). whole_of (record { taken = k; answer = a }) t) en
+pub once_starts : (t : Tables) (d : State) (t₁ : Tables) → machine d t₁ ≡ begun t → Starts d t₁
+once_starts t d t₁ e = subst (λ (m : Machine). Starts m.state m.tables) (sym e) (begun_starts t)
 
-module _ (t : Tables) (d : State) (t₁ : Tables) (e₁ : machine d t₁ ≡ begun t) where
-  pub once_starts : Starts d t₁
-  once_starts = subst (λ (m : Machine). Starts m.state m.tables) (sym e₁) (begun_starts t)
+module _ (t : Tables) (xs : List ℕ) (q : Bytes xs) (done : State) (t₂ : Tables) (e : machine done t₂ ≡ through t xs) where
+  abbrev left : State
+  left = (after t xs q).state
 
-  module _ (xs : List ℕ) (q : Bytes xs) (next : State) (t₂ : Tables) (e₂ : machine next t₂ ≡ fed (machine d t₁) xs) where
-    is_after : machine next t₂ ≡ after t xs q
-    is_after = e₂ ∙ ap (λ (m : Machine). fed m xs) e₁
+  done_taken : done.taken ≡ (reading t xs q).taken
+  done_taken = ap (λ (m : Machine). m.state.taken) e ∙ finish_taken left ∙ (reads t xs q).taken ∙ zero-add (reading t xs q).taken
 
-    next_range : in_range next ≡ true
-    next_range = subst (λ (m : Machine). in_range m.state ≡ true) (sym is_after) (after_range t xs q)
+  done_tables : t₂ ≡ laid (reading t xs q).log (cleared t)
+  done_tables = ap (λ (m : Machine). m.tables) e ∙ (reads t xs q).tables
 
-    next_answer : answer_of next ≡ (reading t xs q).answer
-    next_answer = ap (λ (m : Machine). answer_of m.state) is_after ∙ (reads t xs q).answer
+  done_cleared : cleared t₂ ≡ cleared t
+  done_cleared = ap (λ (m : Machine). cleared m.tables) e ∙ after_cleared t xs q
 
-    next_taken : next.taken ≡ (reading t xs q).taken
-    next_taken = ap (λ (m : Machine). m.state.taken) is_after ∙ (reads t xs q).taken ∙ zero-add (reading t xs q).taken
+  done_answer : answer_of done ≡ outcome.finish (reading t xs q).answer (reading t xs q).taken
+  done_answer =
+      ap (λ (m : Machine). answer_of m.state) e
+      ∙ answer_finish left (after_range t xs q)
+      ∙ ap₂ (λ (a : layout.Answer Head) (n : ℕ). outcome.finish a n) (reads t xs q).answer ((reads t xs q).taken ∙ zero-add (reading t xs q).taken)
 
-    next_tables : t₂ ≡ laid (reading t xs q).log (cleared t)
-    next_tables = ap (λ (m : Machine). m.tables) is_after ∙ (reads t xs q).tables
+  pub once_closes : Closes done
+  once_closes = subst (λ (m : Machine). Closes m.state) (sym e) (range_closes (finish left) (finish_closes left (after_range t xs q)))
 
-    next_cleared : cleared t₂ ≡ cleared t
-    next_cleared = ap (λ (m : Machine). cleared m.tables) is_after ∙ after_cleared t xs q
+  pub strict_closes : (s : State) → s ≡ follow (length xs) done → Closes s
+  strict_closes s es = subst Closes (sym es) (follow_closes (length xs) done once_closes)
 
-    finish_answer : answer_of (finish next) ≡ outcome.finish (reading t xs q).answer (reading t xs q).taken
-    finish_answer = answer_finish next next_range ∙ ap₂ (λ (a : layout.Answer Head) (n : ℕ). outcome.finish a n) next_answer next_taken
+  -- the state that a reading ends with shows the answer a
+  shows : (s : State) (a : layout.Answer Head) → answer_of s ≡ a → s.taken ≡ (reading t xs q).taken → outcome_of (closed s s.taken t₂) ≡ record { answer = a; taken = (reading t xs q).taken; tables = shown a (laid (reading t xs q).log (cleared t)) (cleared t) }
+  shows s a ea en =
+      ap outcome_of (closed_shows s s.taken t₂ (cleared t) a ea done_cleared)
+      ∙ λ i. record { answer = a; taken = en i; tables = shown a (done_tables i) (cleared t) }
 
-    pub once_closes : (done : State) → done ≡ finish next → Closes done
-    once_closes done e = range_closes done (subst (λ (x : State). in_range x ≡ true) (sym e) (finish_closes next next_range))
+  pub at_once_reads : (w : Outcome) → w ≡ outcome_of (closed done done.taken t₂) → w ≡ read_once t xs
+  at_once_reads w ew = ew ∙ shows done _ done_answer done_taken
 
-    -- the state that a reading ends with shows the answer a
-    shows : (done : State) (f : Fed) (t₃ : Tables) (a : layout.Answer Head) → answer_of done ≡ a → done.taken ≡ (reading t xs q).taken → out_of f t₃ ≡ closed done done.taken t₂ → whole_of (record { taken = f.taken; answer = f.answer }) t₃ ≡ record { read = record { taken = (reading t xs q).taken; answer = told a }; tables = shown a (laid (reading t xs q).log (cleared t)) (cleared t) }
-    shows done f t₃ a ea en eo =
-        whole_parts f t₃ done done.taken (told a) (shown a t₂ (cleared t)) (reading t xs q).taken (eo ∙ closed_shows done done.taken t₂ (cleared t) a ea next_cleared) en
-        ∙ ap (λ (x : Tables). whole_of (record { taken = (reading t xs q).taken; answer = told a }) (shown a x (cleared t))) next_tables
-
-    pub at_once_reads : (done : State) (f : Fed) (t₃ : Tables) → done ≡ finish next → out_of f t₃ ≡ closed done done.taken t₂ → whole_of (record { taken = f.taken; answer = f.answer }) t₃ ≡ read_once t xs
-    at_once_reads done f t₃ ed eo = shows done f t₃ _ (ap answer_of ed ∙ finish_answer) (ap (λ (x : State). x.taken) ed ∙ finish_taken next ∙ next_taken) eo
-
-    pub strict_reads : (done : State) (f : Fed) (t₃ : Tables) → done ≡ follow (length xs) (finish next) → out_of f t₃ ≡ closed done done.taken t₂ → whole_of (record { taken = f.taken; answer = f.answer }) t₃ ≡ read_strict t xs
-    strict_reads done f t₃ ed eo =
-        shows done f t₃ _
-        (ap answer_of ed ∙ answer_follow (length xs) (finish next) ∙ ap₂ (λ (a : layout.Answer Head) (n : ℕ). outcome.follow a n (length xs)) finish_answer (finish_taken next ∙ next_taken))
-        (ap (λ (x : State). x.taken) ed ∙ follow_taken (length xs) (finish next) ∙ finish_taken next ∙ next_taken)
-        eo
-
-    pub strict_closes : (done : State) → done ≡ follow (length xs) (finish next) → Closes done
-    strict_closes done e = subst Closes (sym e) (follow_closes (length xs) (finish next) (once_closes (finish next) refl))
+  pub strict_reads : (s : State) (w : Outcome) → s ≡ follow (length xs) done → w ≡ outcome_of (closed s s.taken t₂) → w ≡ read_strict t xs
+  strict_reads s w es ew =
+      ew
+      ∙ shows s _
+      (ap answer_of es ∙ answer_follow (length xs) done ∙ ap₂ (λ (a : layout.Answer Head) (n : ℕ). outcome.follow a n (length xs)) done_answer done_taken)
+      (ap (λ (x : State). x.taken) es ∙ follow_taken (length xs) done ∙ done_taken)

@@ -2,19 +2,22 @@
 use Prim.Native.Nat.{ℕ, zero, suc, ◌+◌, ◌*◌, ◌^◌, ◌<◌, ◌≤◌}
 use mathlib.Core.Path.{◌≡◌, refl, ◌∙◌, subst}
 use mathlib.Core.Bool.{Bool, true, false, cond}
+use Rattle.std.specs.Prelude.{Option, Some, None}
 use mathlib.Core.List.{List, [], ◌∷◌}
 use native.Mathlib.Nat.{pow-succ', mul-le-mul_right}
 use native.Mathlib.Numerals.{add-one}
 use native.Mathlib.Omega.{arith}
 use lib.Dec.{leb, eqb}
-use lib.ListN.{length, length-set}
+use lib.ListN.{length, set, length-set}
 use borrow.Author.Tests.{leb-false, ltb-true, eqb-true, eqb-false, lt-ltb}
 use Rattle.layout.specs.Number.{Bytes}
 use Rattle.layout.specs.Outcome.{Tables}
 use Rattle.layout.proofs.Reading.{by_cases}
+use Rattle.decoders.specs.declared.Table.{Table}
+use Rattle.decoders.specs.declared.Table.TheVariants.{Input, Output, Item}
 use Rattle.decoders.specs.declared.Entered.{Entered}
 use Rattle.decoders.specs.declared.Settled.{Settled}
-use Rattle.decoders.specs.Machine.{OPAQUE, BIG, State, settle, settle_by, opened, compact_settled, length_settled, first_settled, further_settled, body_ends, body_seen, body_opened, emptied, inputs_counted, outputs_counted, script_counted, pegin_counted, little_settled, big_settled, opaque_settled, value_part, asset_part, nonce_part, amount_next, keys_next, null_keys_next, asset_next, value_next, nonce_next, sequence_next, next_input, next_output, next_input_witness, next_output_witness, next_script_item, next_pegin_item, witnesses_end, locktime_next, worth, gather, enter_by, Machine, machine, entering, step, fed}
+use Rattle.decoders.specs.Machine.{OPAQUE, BIG, State, settle, settle_by, opened, compact_settled, length_settled, first_settled, further_settled, body_ends, body_seen, body_opened, emptied, inputs_counted, outputs_counted, script_counted, pegin_counted, little_settled, big_settled, opaque_settled, value_part, asset_part, nonce_part, amount_next, keys_next, null_keys_next, asset_next, value_next, nonce_next, sequence_next, next_input, next_output, next_input_witness, next_output_witness, next_script_item, next_pegin_item, witnesses_end, locktime_next, worth, gather, next_stored, stored, enter_by, enter, Machine, machine, entering, step, fed}
 use Rattle.decoders.specs.Range.{in_range}
 use Rattle.decoders.proofs.Ranges.{valued, value_iff, range_open, gather_range, gather_ready}
 use Rattle.decoders.proofs.Settles.{settle_range}
@@ -71,34 +74,26 @@ settle_sizes s = simp (cond_decoder, cond_sizes, opened_sizes, ends_sizes, compa
 
 -- ---- and entering
 
-cond_inputs : (b : Bool) (t t' : Tables) → (cond b t t').inputs ≡ cond b t.inputs t'.inputs
-cond_inputs true t t' = refl
-cond_inputs false t t' = refl
-
-cond_outputs : (b : Bool) (t t' : Tables) → (cond b t t').outputs ≡ cond b t.outputs t'.outputs
-cond_outputs true t t' = refl
-cond_outputs false t t' = refl
-
-cond_items : (b : Bool) (t t' : Tables) → (cond b t t').items ≡ cond b t.items t'.items
-cond_items true t t' = refl
-cond_items false t t' = refl
-
-cond_length : (b : Bool) (xs ys : List ℕ) → length (cond b xs ys) ≡ cond b (length xs) (length ys)
-cond_length true xs ys = refl
-cond_length false xs ys = refl
-
 pub record Lengths (t t' : Tables) : Type 0 where
   pub inputs : length t'.inputs ≡ length t.inputs
   pub outputs : length t'.outputs ≡ length t.outputs
   pub items : length t'.items ≡ length t.items
 
-pub enter_lengths : (e : Entered) (t : Tables) → Lengths t (enter_by e.table e t)
-enter_lengths e t =
-    record {
-      inputs = simp (cond_inputs, cond_length, length-set, cond_same);
-      outputs = simp (cond_outputs, cond_length, length-set, cond_same);
-      items = simp (cond_items, cond_length, length-set, cond_same);
-    }
+stored_length : (e : Entered) (xs : List ℕ) → length (stored e xs) ≡ length xs
+stored_length e xs =
+    elim e.next as (λ o. length (next_stored o (e.at + 1) (set xs e.at e.number)) ≡ length xs) [
+      | None ↦ length-set xs e.at e.number
+      | Some n ↦ length-set (set xs e.at e.number) (e.at + 1) n ∙ length-set xs e.at e.number
+    ]
+
+entered_lengths : (table : Table) (e : Entered) (t : Tables) → Lengths t (enter_by table e t)
+entered_lengths Input e t = record { inputs = stored_length e t.inputs; outputs = refl; items = refl }
+entered_lengths Output e t = record { inputs = refl; outputs = stored_length e t.outputs; items = refl }
+entered_lengths Item e t = record { inputs = refl; outputs = refl; items = stored_length e t.items }
+
+pub enter_lengths : (e : Option Entered) (t : Tables) → Lengths t (enter e t)
+enter_lengths None t = record { inputs = refl; outputs = refl; items = refl }
+enter_lengths (Some e) t = entered_lengths e.table e t
 
 -- ---- a byte
 

@@ -16,7 +16,7 @@ use Rattle.layout.specs.Outcome.{Tables, laid, shown, reading_of}
 use Rattle.layout.proofs.Reading.{by_cases}
 use Rattle.decoders.specs.Machine.{State, answer_of, Machine, fed, entering}
 use Rattle.decoders.specs.Range.{in_range}
-use Rattle.decoders.specs.Feeding.{tables, sizes_of, cleared, layout_sizes, begun, told, out, closed, finish, follow}
+use Rattle.decoders.specs.Feeding.{tables, sizes_of, cleared, layout_sizes, begun, out, closed, finish, follow}
 use Rattle.decoders.proofs.Simulation.{Same, at_run}
 use Rattle.decoders.proofs.Walk.{fresh_at}
 use Rattle.decoders.proofs.Feeds.{Lengths, fed_lengths, fed_range}
@@ -61,11 +61,11 @@ shown_own s t =
     (λ q. by_cases (eqb s.field.stage 25) (λ p. rw (p, q)) (λ p. rw (p, q)))
 
 -- a call that ends at a state shows its answer, and the tables as that answer leaves them
-pub closed_shows : (s : State) (n : ℕ) (t z : Tables) (a : layout.Answer Head) → answer_of s ≡ a → cleared t ≡ z → closed s n t ≡ out s n (told a) (shown a t z)
+pub closed_shows : (s : State) (n : ℕ) (t z : Tables) (a : layout.Answer Head) → answer_of s ≡ a → cleared t ≡ z → closed s n t ≡ out s n a (shown a t z)
 unfolding closed
 closed_shows s n t z a e c =
-    ap (λ (x : Tables). out s n (told (answer_of s)) x) (shown_own s t)
-    ∙ ap₂ (λ (x : layout.Answer Head) (y : Tables). out s n (told x) (shown x t y)) e c
+    ap (λ (x : Tables). out s n (answer_of s) x) (shown_own s t)
+    ∙ ap₂ (λ (x : layout.Answer Head) (y : Tables). out s n x (shown x t y)) e c
 
 -- finishing, and the strict form, are document 01's
 pub answer_finish : (s : State) → in_range s ≡ true → answer_of (finish s) ≡ outcome.finish (answer_of s) s.taken

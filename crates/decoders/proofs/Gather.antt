@@ -1,9 +1,12 @@
 -- Gathering a part of a field at once is feeding its bytes one after another, from any state.
-use Prim.Native.Nat.{ℕ, suc, ◌+◌, ◌*◌, ◌^◌, ◌<◌, ◌≤◌}
+use Prim.Native.Nat.{ℕ, zero, suc, ◌+◌, ◌*◌, ◌%◌, ◌^◌, ◌<◌, ◌≤◌}
+use Rattle.std.proofs.lemmas.Nat.{pow-add}
+use Rattle.std.specs.Array.{IsWholeChunk}
+use Rattle.std.specs.Int.{w16, w32, w64, from_le_bytes, from_be_bytes}
 use mathlib.Core.Path.{◌≡◌, refl, sym, ◌∙◌, ap, subst}
 use mathlib.Core.Bool.{cond}
 use mathlib.Core.List.{List, [], ◌∷◌}
-use native.Mathlib.Nat.{pow-succ', mul-le-mul_right, pow-le-pow_right, add-zero, mul-zero, mul_assoc, mul-add, add-mul, mul_comm, mul_left_comm}
+use native.Mathlib.Nat.{mod-eq_of_lt, pow-succ', mul-le-mul_right, pow-le-pow_right, add-zero, mul-zero, mul_assoc, mul-add, add-mul, mul_comm, mul_left_comm}
 use native.Mathlib.Numerals.{add-one}
 use native.Mathlib.Omega.{arith}
 use lib.Dec.{eqb, lit<}
@@ -11,11 +14,11 @@ use lib.ListN.{length, drop, get_or, drop_of_length-le}
 use lib.Seq.{drop-cons, take_all}
 use Rattle.layout.specs.Number.{Order, value, little, big}
 use Rattle.encode.proofs.Number.{weighed, value_bytes_lem}
-use borrow.Author.Tests.{lt-leb, eq-eqb, ne_eqb}
+use borrow.Author.Tests.{lt-leb, eq-eqb, ne_eqb, eqb-true, eqb-false}
 use Rattle.layout.specs.Outcome.{Tables}
 use Rattle.layout.proofs.Reading.{by_cases}
 use Rattle.decoders.specs.Machine.{OPAQUE, BIG, State, worth, worths, gather, gathered, machine, Machine, step, fed, entering, settle}
-use Rattle.decoders.specs.Needs.{ByteAt}
+use Rattle.decoders.specs.Needs.{whole}
 
 -- ---- one byte more
 
@@ -36,13 +39,17 @@ big_fits value have b n h hb = omega (arith, byte_below value b (256 ^ have) h h
 pub little_fits : (value have b p : ℕ) → have < 8 → value < 256 ^ have → b < 256 → p ≡ 256 ^ have → value + b * p < 18446744073709551616
 little_fits value have b p n h hb e = rw e (omega (arith, weight_below value b (256 ^ have) h hb, power_64 have n))
 
-next : (k j : ℕ) → k ≤ j → (j ≡ k → ⊥) → suc k ≤ j
-next k j h n = omega arith
+power_bits : (j : ℕ) → 2 ^ (8 * j) ≡ 256 ^ j
+power_bits zero = refl
+power_bits (suc j) =
+    let e : 8 * suc j ≡ 8 * j + 8 = omega arith in
+    ap (λ (n : ℕ). 2 ^ n) e ∙ pow-add 2 (8 * j) 8 ∙ omega (arith, power_bits j, pow-succ' 256 j)
 
-pub seven : (j : ℕ) → j < 8 → (j ≡ 0 → ⊥) → (j ≡ 1 → ⊥) → (j ≡ 2 → ⊥) → (j ≡ 3 → ⊥) → (j ≡ 4 → ⊥) → (j ≡ 5 → ⊥) → (j ≡ 6 → ⊥) → j ≡ 7
-seven j h a b c d e f g =
-    let least : 7 ≤ j = next 6 j (next 5 j (next 4 j (next 3 j (next 2 j (next 1 j (next 0 j (omega arith) a) b) c) d) e) f) g in
-    omega arith
+pub shifted : (j : ℕ) → j < 8 → 1 * 2 ^ (8 * j) % 18446744073709551616 ≡ 256 ^ j
+shifted j h =
+    let e : 1 * 2 ^ (8 * j) ≡ 256 ^ j = omega (arith, power_bits j) in
+    let l : 256 ^ j < 18446744073709551616 = omega (arith, power_64 j h) in
+    ap (λ (n : ℕ). n % 18446744073709551616) e ∙ mod-eq_of_lt l
 
 pub worth_big : (form value have b : ℕ) → form ≡ BIG → value * 256 + b ≡ worth form value have b
 unfolding worth
@@ -156,15 +163,13 @@ worths_big form v h (x ∷ bs) e =
 none_yet : (value have : ℕ) → have ≡ 0 → value < 256 ^ have → value ≡ 0
 none_yet value have e h = let z : value < 256 ^ 0 = subst (λ (n : ℕ). value < 256 ^ n) e h in omega arith
 
-pub little_whole : (form v have : ℕ) (bs : List ℕ) (r : ℕ) → (form ≡ OPAQUE → ⊥) → (form ≡ BIG → ⊥) → have ≡ 0 → v < 256 ^ have → r ≡ value little bs → r ≡ worths form v have bs
-little_whole form v have bs r f f' e h q =
+pub whole_worths : (form v have : ℕ) (bs : List ℕ) (r : ℕ) → (form ≡ OPAQUE → ⊥) → have ≡ 0 → v < 256 ^ have → r ≡ whole form bs → r ≡ worths form v have bs
+whole_worths form v have bs r f e h q =
     let z : v ≡ 0 = none_yet v have e h in
-    q ∙ omega (arith, worths_little form v have bs f f', ap (λ (n : ℕ). 256 ^ n * value little bs) e)
-
-pub big_whole : (form v have : ℕ) (bs : List ℕ) (r : ℕ) → form ≡ 4 → have ≡ 0 → v < 256 ^ have → r ≡ value big bs → r ≡ worths form v have bs
-big_whole form v have bs r f e h q =
-    let z : v ≡ 0 = none_yet v have e h in
-    q ∙ omega (arith, worths_big form v have bs f, ap (λ (n : ℕ). n * 256 ^ length bs) z)
+    q
+    ∙ by_cases (eqb form BIG)
+    (λ b. rw b (omega (arith, worths_big form v have bs (eqb-true form BIG b), ap (λ (n : ℕ). n * 256 ^ length bs) z)))
+    (λ b. rw b (omega (arith, worths_little form v have bs f (eqb-false form BIG b), ap (λ (n : ℕ). 256 ^ n * value little bs) e)))
 
 pub one_worths : (form v have : ℕ) (bs : List ℕ) (b r : ℕ) → length bs ≡ 1 → b ≡ get_or bs 0 0 → r ≡ worth form v have b → r ≡ worths form v have bs
 unfolding worths
@@ -176,14 +181,15 @@ one_worths form v have (x ∷ (y ∷ bs)) b r e eb er = absurd (omega arith)
 weighed_value : (o : Order) (w : ℕ) (xs : List ℕ) → length xs ≡ w → value o xs ≡ weighed o w (λ i. get_or xs i 0)
 weighed_value o w xs e = sym (ap (value o) (take_all w xs (omega arith))) ∙ value_bytes_lem o w xs (omega arith)
 
-pub two_value : (xs : List ℕ) (a b : ℕ) → length xs ≡ 2 → ByteAt xs 0 a → ByteAt xs 1 b → a + b * 256 ≡ value little xs
-two_value xs a b e ea eb = omega (arith, weighed_value little 2 xs e, ea, eb)
+module _ (form : ℕ) (xs ys : List ℕ) (r : ℕ) where
+  pub two_loaded : (form ≡ BIG → ⊥) → IsWholeChunk xs ys 2 → r ≡ from_le_bytes w16 ys → r ≡ whole form xs
+  two_loaded f w e = rw (ne_eqb form BIG f) (e ∙ omega (arith, weighed_value little 2 ys (ap length w.same ∙ w.long)) ∙ ap (value little) w.same)
 
-pub four_value : (xs : List ℕ) (a b c d : ℕ) → length xs ≡ 4 → ByteAt xs 0 a → ByteAt xs 1 b → ByteAt xs 2 c → ByteAt xs 3 d → a + b * 256 + c * 65536 + d * 16777216 ≡ value little xs
-four_value xs a b c d e ea eb ec ed = omega (arith, weighed_value little 4 xs e, ea, eb, ec, ed)
+  pub four_loaded : (form ≡ BIG → ⊥) → IsWholeChunk xs ys 4 → r ≡ from_le_bytes w32 ys → r ≡ whole form xs
+  four_loaded f w e = rw (ne_eqb form BIG f) (e ∙ omega (arith, weighed_value little 4 ys (ap length w.same ∙ w.long)) ∙ ap (value little) w.same)
 
-pub eight_value : (xs : List ℕ) (a b c d a' b' c' d' : ℕ) → length xs ≡ 8 → ByteAt xs 0 a → ByteAt xs 1 b → ByteAt xs 2 c → ByteAt xs 3 d → ByteAt xs 4 a' → ByteAt xs 5 b' → ByteAt xs 6 c' → ByteAt xs 7 d' → a + b * 256 + c * 65536 + d * 16777216 + (a' + b' * 256 + c' * 65536 + d' * 16777216) * 4294967296 ≡ value little xs
-eight_value xs a b c d a' b' c' d' e ea eb ec ed ea' eb' ec' ed' = omega (arith, weighed_value little 8 xs e, ea, eb, ec, ed, ea', eb', ec', ed')
+  pub eight_loaded : (form ≡ BIG → ⊥) → IsWholeChunk xs ys 8 → r ≡ from_le_bytes w64 ys → r ≡ whole form xs
+  eight_loaded f w e = rw (ne_eqb form BIG f) (e ∙ omega (arith, weighed_value little 8 ys (ap length w.same ∙ w.long)) ∙ ap (value little) w.same)
 
-pub eight_big_value : (xs : List ℕ) (a b c d a' b' c' d' : ℕ) → length xs ≡ 8 → ByteAt xs 0 a → ByteAt xs 1 b → ByteAt xs 2 c → ByteAt xs 3 d → ByteAt xs 4 a' → ByteAt xs 5 b' → ByteAt xs 6 c' → ByteAt xs 7 d' → (a * 16777216 + b * 65536 + c * 256 + d) * 4294967296 + (a' * 16777216 + b' * 65536 + c' * 256 + d') ≡ value big xs
-eight_big_value xs a b c d a' b' c' d' e ea eb ec ed ea' eb' ec' ed' = omega (arith, weighed_value big 8 xs e, ea, eb, ec, ed, ea', eb', ec', ed')
+  pub eight_big_loaded : form ≡ BIG → IsWholeChunk xs ys 8 → r ≡ from_be_bytes w64 ys → r ≡ whole form xs
+  eight_big_loaded f w e = rw (eq-eqb form BIG f) (e ∙ omega (arith, weighed_value big 8 ys (ap length w.same ∙ w.long)) ∙ ap (value big) w.same)

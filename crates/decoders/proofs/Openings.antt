@@ -5,45 +5,34 @@ use mathlib.Core.Path.{◌≡◌, refl, sym, subst}
 use mathlib.Core.Bool.{Bool, true, false, cond, ◌||◌, true≢false}
 use native.Mathlib.Omega.{arith}
 use lib.Dec.{leb, ltb, eqb, lit≤}
-use lib.ListN.{get_or}
 use borrow.Author.Tests.{leb-true, leb-false, ltb-true, ltb-false, eqb-true, eqb-false, le-leb, lt-leb, eq-eqb}
 use Rattle.layout.specs.Transaction.{limit, least}
 use Rattle.layout.proofs.Reading.{by_cases}
+use Rattle.std.specs.Prelude.{Some}
 use Rattle.decoders.specs.declared.Sizes.{Sizes}
 use Rattle.decoders.specs.declared.Entered.{Entered}
 use Rattle.decoders.specs.declared.Settled.{Settled}
+use Rattle.decoders.specs.Needs.{Enterable}
 use Rattle.decoders.specs.Stages.{KEYS_PROOF, PEGIN_ITEM, RANGE_PROOF}
 use Rattle.decoders.specs.Machine as m
 use Rattle.decoders.specs.Machine.{FIRST, OPAQUE, LITTLE, State, settled, quiet, opened, compact_settled, length_settled, body_ends, body_entered, body_seen, body_opened, emptied, inputs_counted, outputs_counted, script_counted, pegin_counted, opaque_settled, next_input, next_output, next_input_witness, next_output_witness, next_script_item, next_pegin_item, witnesses_end}
+use Rattle.decoders.specs.declared.row.Kind.TheVariants as reads
 use Rattle.decoders.specs.Range.{size, least_width, greatest_width, own_bytes, in_range}
-use Rattle.decoders.proofs.Rows.{kinds, before, slack, scripts, dark_at, input_witnesses_read, output_witnesses_read, within}
+use Rattle.decoders.proofs.Rows.{kind_at, before, slack, scripts, dark_at, input_witnesses_read, output_witnesses_read, within}
 use Rattle.decoders.proofs.Ranges.{Numbers, Few, Stands, Placed, Witnessed, open_range, finished_range, refuse_range}
-
-abbrev pub size_by : ℕ → Sizes → ℕ
-size_by t z = cond (eqb t 1) z.inputs (cond (eqb t 2) z.outputs z.items)
-
--- what enters stays in its table, and fits a u32
-pub record Fits (e : Entered) (z : Sizes) : Type 0 where
-  pub table : e.table ≤ 3
-  pub count : e.count ≤ 2
-  pub none : e.table ≡ 0 → e.count ≡ 0
-  pub at : 0 < e.count → e.at < size_by e.table z
-  pub at2 : e.count ≡ 2 → e.at2 < size_by e.table z
-  pub number : e.number < 2 ^ 32
-  pub number2 : e.number2 < 2 ^ 32
 
 pub record Ranged (s : State) : Type 0 where
   pub range : in_range s ≡ true
 
 pub record Good (z : Sizes) (r : Settled) : Type 0 where
   pub ranged : Ranged r.decoder
-  pub fits : Fits r.entered z
+  pub fits : Enterable r.entered z
 
-pub good : {z : Sizes} {s : State} {e : Entered} → Ranged s → Fits e z → Good z (settled s e)
+pub good : {z : Sizes} {s : State} {e : Entered} → Ranged s → Enterable (Some e) z → Good z (settled s e)
 good r f = record { ranged = r; fits = f }
 
 pub silent : {z : Sizes} {s : State} → Ranged s → Good z (quiet s)
-silent r = good r (omega arith)
+silent r = record { ranged = r; fits = tt }
 
 -- ---- tests, ends, and opening a field
 
@@ -325,10 +314,10 @@ proof σ = eqb σ 17 || eqb σ 18 || eqb σ 23 || eqb σ 24
 -- a stage of a length and body
 pub record Body (σ : ℕ) : Type 0 where
   pub stage : σ ≤ 24
-  pub kind : get_or kinds σ 0 ≡ 4
+  pub kind : kind_at σ ≡ reads.Body
   pub length : (start n : ℕ) (s : State) → compact_settled σ start n s ≡ length_settled σ start n s
   pub whole : (s : State) → opaque_settled σ s ≡ quiet (body_ends σ s)
-  pub enters : (n : ℕ) (s : State) → Numbers σ FIRST s → Few σ s → s.taken + n ≤ limit → Fits (body_entered σ n s) s.sizes
+  pub enters : (n : ℕ) (s : State) → Numbers σ FIRST s → Few σ s → s.taken + n ≤ limit → Enterable (Some (body_entered σ n s)) s.sizes
   pub unlit : (s : State) → Numbers σ FIRST s → proof σ ≡ false → s.spot.empty ≡ 0
   pub late : (start : ℕ) (s : State) → Behind σ start s → 10 ≤ start
   pub ends : (s : State) → Ended σ s → Ranged (body_ends σ s)

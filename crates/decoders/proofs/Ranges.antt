@@ -10,12 +10,16 @@ use borrow.Author.Tests.{leb-true, leb-false, eqb-true, eqb-false, le-leb, eq-eq
 use Rattle.layout.specs.Transaction.{limit}
 use Rattle.layout.proofs.Reading.{by_cases}
 use Rattle.decoders.specs.declared.Sizes.{Sizes}
+use Rattle.decoders.specs.declared.row.Kind.{Kind}
 use Rattle.decoders.specs.Stages.{VERSION, INPUT_COUNT, INPUT_SCRIPT, BLINDING_NONCE, INFLATION_KEYS, OUTPUT_COUNT, LOCKTIME, KEYS_PROOF, SCRIPT_ITEM, PEGIN_ITEM, RANGE_PROOF}
-use Rattle.decoders.specs.Needs.{Endable}
+use Rattle.decoders.specs.Needs.{Endable, Numbered}
+use Rattle.encode.specs.declared.refusal.RefusalKind.{RefusalKind}
+use Rattle.encode.specs.declared.refusal.RefusalKind.TheVariants.{EndsEarly, LimitPassed, NotShortest, NoRecordLeft, BadPrefix, NullIssuance, BadFlag, EmptyWitnesses}
+use Rattle.encode.specs.Refusal.{number_of}
 use Rattle.decoders.specs.Machine as m
-use Rattle.decoders.specs.Machine.{FURTHER, OPAQUE, State, Safe, gathered, fresh}
-use Rattle.decoders.specs.Range.{size, least_forms, greatest_forms, least_width, greatest_width, own_bytes, field_range, exact, among_inputs, among_outputs, among_witnesses, in_opening, unwitnessed, input_numbers, in_input, inputs_numbers, behind_inputs, output_numbers, in_output, outputs_numbers, behind_outputs, witness_numbers, input_witness_numbers, in_input_witness, stack_numbers, in_stack, output_witness_numbers, in_output_witness, plain, ended_range, whole_fits, whole_range, nears, fars, least_places, greatest_places, refused_range, placed_fits, row_of, in_range}
-use Rattle.decoders.proofs.Rows.{kinds, behind, upto, within, stacked, inputs_read, outputs_read, input_witnesses_read, output_witnesses_read, before, slack, scripts, dark_at, greatest_flag, total, between}
+use Rattle.decoders.specs.Machine.{FURTHER, FIRST, OPAQUE, LITTLE, State, Safe, gathered, fresh}
+use Rattle.decoders.specs.Range.{size, is_number, is_body, least_forms, greatest_forms, least_width, greatest_width, own_bytes, shape_fits, field_range, exact, among_inputs, among_outputs, among_witnesses, in_opening, unwitnessed, input_numbers, in_input, inputs_numbers, behind_inputs, output_numbers, in_output, outputs_numbers, behind_outputs, witness_numbers, input_witness_numbers, in_input_witness, stack_numbers, in_stack, output_witness_numbers, in_output_witness, plain, ended_range, whole_fits, whole_range, nears, fars, least_places, greatest_places, refused_range, placed_fits, row_of, in_range}
+use Rattle.decoders.proofs.Rows.{kind_at, behind, upto, within, stacked, inputs_read, outputs_read, input_witnesses_read, output_witnesses_read, before, slack, scripts, dark_at, greatest_flag, total, between}
 
 -- ---- tests as statements
 
@@ -90,16 +94,16 @@ pub record Few (σ : ℕ) (s : State) : Type 0 where
 -- of a field at stage σ and of form f, however many of its bytes are there, and of where it lies
 pub record Stands (σ f : ℕ) (s : State) : Type 0 where
   pub numbers : Numbers σ f s
-  pub above : get_or least_forms (get_or kinds σ 0) 0 ≤ f
-  pub below : f ≤ get_or greatest_forms (get_or kinds σ 0) 0
-  pub wide : least_width (get_or kinds σ 0) f ≤ s.field.width
-  pub narrow : s.field.width ≤ greatest_width (get_or kinds σ 0) f
+  pub above : least_forms (kind_at σ) ≤ f
+  pub below : f ≤ greatest_forms (kind_at σ)
+  pub wide : least_width (kind_at σ) f ≤ s.field.width
+  pub narrow : s.field.width ≤ greatest_width (kind_at σ) f
   pub further : given (eqb f FURTHER) ((eqb s.field.width 2 || eqb s.field.width 4 || eqb s.field.width 8) ≡ true)
   pub value : cond (eqb f OPAQUE) (s.field.value ≡ 0) (s.field.value < 256 ^ s.field.have)
   pub few : Few σ s
-  pub least : before σ s + own_bytes (get_or kinds σ 0) f s.field.width + s.counts.items + s.field.have ≤ s.taken + 8 * s.spot.null
-  pub lit : before σ s + own_bytes (get_or kinds σ 0) f s.field.width + dark_at σ f + s.field.have ≤ s.taken + 8 * s.spot.null + s.spot.empty
-  pub exact : s.taken ≤ before σ s + own_bytes (get_or kinds σ 0) f s.field.width + s.field.have + slack σ + limit * scripts σ s
+  pub least : before σ s + own_bytes (kind_at σ) f s.field.width + s.counts.items + s.field.have ≤ s.taken + 8 * s.spot.null
+  pub lit : before σ s + own_bytes (kind_at σ) f s.field.width + dark_at σ f + s.field.have ≤ s.taken + 8 * s.spot.null + s.spot.empty
+  pub exact : s.taken ≤ before σ s + own_bytes (kind_at σ) f s.field.width + s.field.have + slack σ + limit * scripts σ s
   pub room : s.taken + s.field.width ≤ limit + s.field.have
   pub seen : dark_at σ f ≤ s.spot.empty + input_witnesses_read σ s + output_witnesses_read σ s + within KEYS_PROOF PEGIN_ITEM σ + within RANGE_PROOF RANGE_PROOF σ
 
@@ -175,37 +179,49 @@ pub record Refused (s : State) : Type 0 where
   pub placed : Placed s.field.value s.field.have s.taken
 
 -- the field that is open, by what its stage reads
-pub record Fielded (kind : ℕ) (s : State) : Type 0 where
-  pub above : get_or least_forms kind 0 ≤ s.field.form
-  pub below : s.field.form ≤ get_or greatest_forms kind 0
+pub record Fielded (kind : Kind) (s : State) : Type 0 where
+  pub above : least_forms kind ≤ s.field.form
+  pub below : s.field.form ≤ greatest_forms kind
   pub wide : least_width kind s.field.form ≤ s.field.width
   pub narrow : s.field.width ≤ greatest_width kind s.field.form
   pub further : given (eqb s.field.form FURTHER) ((eqb s.field.width 2 || eqb s.field.width 4 || eqb s.field.width 8) ≡ true)
   pub have : s.field.have < s.field.width
   pub value : cond (eqb s.field.form OPAQUE) (s.field.value ≡ 0) (s.field.value < 256 ^ s.field.have)
 
-field_iff : (kind : ℕ) (s : State) → (field_range kind s ≡ true) ↔ Fielded kind s
+field_iff : (kind : Kind) (s : State) → (field_range kind s ≡ true) ↔ Fielded kind s
 unfolding field_range
 field_iff kind s = (
   λ e. let ((((((above, below), wide), narrow), further), have), value) = simp says at e in record { above = above; below = below; wide = wide; narrow = narrow; further = further; have = have; value = value },
   λ k. simp says ((((((k.above, k.below), k.wide), k.narrow), k.further), k.have), k.value),
 )
 
-width_most : (kind form : ℕ) → greatest_width kind form ≤ limit
+-- a number has 8 bytes at most, any field no more than the limit
+pub number_narrow : (kind : Kind) (form : ℕ) → (form ≡ OPAQUE → ⊥) → greatest_width kind form ≤ 8
 unfolding greatest_width
-width_most k f =
-    by_cases (eqb f 0) (λ q. rw q (omega arith)) λ q.
-    by_cases (eqb f 1) (λ q'. rw (q, q') (omega arith)) λ q'.
-    by_cases (eqb f 2) (λ q''. by_cases (eqb k 4) (λ z. rw (q, q', q'', z) (omega arith)) (λ z. rw (q, q', q'', z) (omega arith))) λ q''.
-    by_cases (eqb f 3) (λ q'''. by_cases (eqb k 0) (λ z. rw (q, q', q'', q''', z) (omega arith)) (λ z. rw (q, q', q'', q''', z) (omega arith))) (λ q'''. rw (q, q', q'', q''') (omega arith))
+number_narrow kind form h =
+    by_cases (eqb form FURTHER) (λ a. rw a (omega arith)) λ a.
+    by_cases (eqb form FIRST) (λ b. rw (a, b) (omega arith)) λ b.
+    by_cases (eqb form LITTLE)
+    (λ d. rw (a, b, ne_eqb form OPAQUE h, d) (by_cases (is_number kind) (λ e. rw e (omega arith)) (λ e. rw e (omega arith))))
+    (λ d. rw (a, b, ne_eqb form OPAQUE h, d) (omega arith))
+
+pub width_most : (kind : Kind) (form : ℕ) → greatest_width kind form ≤ limit
+unfolding greatest_width
+width_most kind form =
+    by_cases (eqb form OPAQUE)
+    (λ o. rw (ap (λ (f : ℕ). greatest_width kind f) (eqb-true form OPAQUE o)) (by_cases (is_body kind) (λ e. rw e (omega arith)) (λ e. rw e (omega arith))))
+    (λ o. omega (arith, number_narrow kind form (eqb-false form OPAQUE o)))
+
+pub number_short : (kind : Kind) (s : State) → shape_fits kind s ≡ true → (s.field.form ≡ OPAQUE → ⊥) → s.field.width ≤ 8
+number_short kind s e ne = let q = simp says at e in omega (arith, number_narrow kind s.field.form ne)
 
 -- of where the field lies, and of the numbers that outlast it
 pub record Rest (σ f : ℕ) (s : State) : Type 0 where
   pub numbers : Numbers σ f s
   pub few : Few σ s
-  pub least : before σ s + own_bytes (get_or kinds σ 0) f s.field.width + s.counts.items + s.field.have ≤ s.taken + 8 * s.spot.null
-  pub lit : before σ s + own_bytes (get_or kinds σ 0) f s.field.width + dark_at σ f + s.field.have ≤ s.taken + 8 * s.spot.null + s.spot.empty
-  pub exact : s.taken ≤ before σ s + own_bytes (get_or kinds σ 0) f s.field.width + s.field.have + slack σ + limit * scripts σ s
+  pub least : before σ s + own_bytes (kind_at σ) f s.field.width + s.counts.items + s.field.have ≤ s.taken + 8 * s.spot.null
+  pub lit : before σ s + own_bytes (kind_at σ) f s.field.width + dark_at σ f + s.field.have ≤ s.taken + 8 * s.spot.null + s.spot.empty
+  pub exact : s.taken ≤ before σ s + own_bytes (kind_at σ) f s.field.width + s.field.have + slack σ + limit * scripts σ s
   pub room : s.taken + s.field.width ≤ limit + s.field.have
   pub seen : dark_at σ f ≤ s.spot.empty + input_witnesses_read σ s + output_witnesses_read σ s + within KEYS_PROOF PEGIN_ITEM σ + within RANGE_PROOF RANGE_PROOF σ
 
@@ -218,7 +234,7 @@ known e = (λ _. lit≤ tt, λ _. e)
 
 -- a stage's row says so: at each stage's numeral both come to the same inequalities
 abbrev Is : ℕ → Type 0
-Is σ = (s : State) → field_range (get_or kinds σ 0) s ≡ true → s.field.have < s.field.width → s.field.width ≤ limit → (row_of σ s ≡ true) ↔ Rest σ s.field.form s
+Is σ = (s : State) → field_range (kind_at σ) s ≡ true → s.field.have < s.field.width → s.field.width ≤ limit → (row_of σ s ≡ true) ↔ Rest σ s.field.form s
 
 rest_0 : Is 0
 unfolding in_opening exact
@@ -321,40 +337,40 @@ unfolding in_output_witness output_witness_numbers witness_numbers among_witness
 rest_24 s e short wide = (λ r. let q = simp (says, e) at r in omega arith, λ r. simp (says, known e) (omega arith))
 
 -- and that the field is within its own
-opening_field : (k : ℕ) (b v f : ℕ) (s : State) → in_opening k b v f s ≡ true → field_range k s ≡ true
+opening_field : (k : Kind) (b v f : ℕ) (s : State) → in_opening k b v f s ≡ true → field_range k s ≡ true
 unfolding in_opening
-opening_field k b v f s e = let q = simp says at e in q.0.0.0.0.0.0.0.0.0.0.0.0
+opening_field k b v f s e = let q = simp says at e in q.0.0.0.0.0.0.0.0
 
-input_field : (k : ℕ) (b l g n c : ℕ) (s : State) → in_input k b l g n c s ≡ true → field_range k s ≡ true
+input_field : (k : Kind) (b l g n c : ℕ) (s : State) → in_input k b l g n c s ≡ true → field_range k s ≡ true
 unfolding in_input input_numbers
 input_field k b l g n c s e = let q = simp says at e in q.0.0.0.0.0.0.0
 
-inputs_field : (k : ℕ) (b : ℕ) (s : State) → behind_inputs k b s ≡ true → field_range k s ≡ true
+inputs_field : (k : Kind) (b : ℕ) (s : State) → behind_inputs k b s ≡ true → field_range k s ≡ true
 unfolding behind_inputs inputs_numbers
 inputs_field k b s e = let q = simp says at e in q.0.0.0.0.0.0
 
-output_field : (k : ℕ) (b l : ℕ) (s : State) → in_output k b l s ≡ true → field_range k s ≡ true
+output_field : (k : Kind) (b l : ℕ) (s : State) → in_output k b l s ≡ true → field_range k s ≡ true
 unfolding in_output output_numbers
 output_field k b l s e = let q = simp says at e in q.0.0.0.0.0.0.0
 
-outputs_field : (k : ℕ) (b : ℕ) (s : State) → behind_outputs k b s ≡ true → field_range k s ≡ true
+outputs_field : (k : Kind) (b : ℕ) (s : State) → behind_outputs k b s ≡ true → field_range k s ≡ true
 unfolding behind_outputs outputs_numbers
 outputs_field k b s e = let q = simp says at e in q.0.0.0.0.0.0.0
 
-input_witness_field : (k : ℕ) (b t n : ℕ) (s : State) → in_input_witness k b t n s ≡ true → field_range k s ≡ true
+input_witness_field : (k : Kind) (b t n : ℕ) (s : State) → in_input_witness k b t n s ≡ true → field_range k s ≡ true
 unfolding in_input_witness input_witness_numbers witness_numbers
 input_witness_field k b t n s e = let q = simp says at e in q.0.0.0.0.0.0.0.0.0.0.0.0.0.0
 
-stack_field : (k : ℕ) (b : ℕ) (s : State) → in_stack k b s ≡ true → field_range k s ≡ true
+stack_field : (k : Kind) (b : ℕ) (s : State) → in_stack k b s ≡ true → field_range k s ≡ true
 unfolding in_stack stack_numbers witness_numbers
 stack_field k b s e = let q = simp says at e in q.0.0.0.0.0.0.0.0.0.0.0.0.0.0.0.0
 
-output_witness_field : (k : ℕ) (b n : ℕ) (s : State) → in_output_witness k b n s ≡ true → field_range k s ≡ true
+output_witness_field : (k : Kind) (b n : ℕ) (s : State) → in_output_witness k b n s ≡ true → field_range k s ≡ true
 unfolding in_output_witness output_witness_numbers witness_numbers
 output_witness_field k b n s e = let q = simp says at e in q.0.0.0.0.0.0.0.0.0.0.0.0.0.0
 
 abbrev Has : ℕ → Type 0
-Has σ = (s : State) → row_of σ s ≡ true → field_range (get_or kinds σ 0) s ≡ true
+Has σ = (s : State) → row_of σ s ≡ true → field_range (kind_at σ) s ≡ true
 
 -- P of each of n numbers from k on
 abbrev pub From : (ℕ → Type 0) → ℕ → ℕ → Type 0
@@ -408,7 +424,7 @@ open_iff : (s : State) → s.field.stage ≤ 24 → (row_of s.field.stage s ≡ 
 open_iff s h = (
   λ e.
       let fe = from Has 0 25 s.field.stage (omega arith) (omega (arith, h)) has_field s e in
-      let k = (field_iff (get_or kinds s.field.stage 0) s).0 fe in
+      let k = (field_iff (kind_at s.field.stage) s).0 fe in
       let r = (rest_of fe k).0 e in
       record {
         stage = h;
@@ -417,15 +433,15 @@ open_iff s h = (
       },
   λ o.
       let r = o.stands in
-      let k : Fielded (get_or kinds s.field.stage 0) s = record { above = r.above; below = r.below; wide = r.wide; narrow = r.narrow; further = r.further; have = o.have; value = r.value } in
-      (rest_of ((field_iff (get_or kinds s.field.stage 0) s).1 k) k).1
+      let k : Fielded (kind_at s.field.stage) s = record { above = r.above; below = r.below; wide = r.wide; narrow = r.narrow; further = r.further; have = o.have; value = r.value } in
+      (rest_of ((field_iff (kind_at s.field.stage) s).1 k) k).1
       (record { numbers = r.numbers; few = r.few; least = r.least; lit = r.lit; exact = r.exact; room = r.room; seen = r.seen }),
 )
   where
-    rest_of : field_range (get_or kinds s.field.stage 0) s ≡ true → Fielded (get_or kinds s.field.stage 0) s → (row_of s.field.stage s ≡ true) ↔ Rest s.field.stage s.field.form s
+    rest_of : field_range (kind_at s.field.stage) s ≡ true → Fielded (kind_at s.field.stage) s → (row_of s.field.stage s ≡ true) ↔ Rest s.field.stage s.field.form s
     rest_of fe k =
         from Is 0 25 s.field.stage (omega arith) (omega (arith, h)) rests s fe k.have
-        (let most = width_most (get_or kinds s.field.stage 0) s.field.form in let narrow = k.narrow in omega (arith, narrow, most))
+        (let most = width_most (kind_at s.field.stage) s.field.form in let narrow = k.narrow in omega (arith, narrow, most))
 
 witnessed_iff : (c : Bool) (s : State) → (cond c (leb (plain s.counts.inputs s.counts.outputs + 4 * s.counts.inputs + 2 * s.counts.outputs + s.counts.items) s.taken && leb (plain s.counts.inputs s.counts.outputs + 4 * s.counts.inputs + 2 * s.counts.outputs + 1) s.taken && leb s.counts.items (limit * s.counts.inputs) && leb 1 (s.counts.inputs + s.counts.outputs)) (eqb s.counts.items 0) ≡ true) ↔ cond c (Witnessed s) (s.counts.items ≡ 0)
 witnessed_iff true s = (λ e. let q = simp says at e in omega arith, λ k. simp says (omega arith))
@@ -518,23 +534,35 @@ pub ended_endable : (s : State) → ended_range s ≡ true → Endable s
 unfolding ended_range
 ended_endable s e = let q = simp says at e in omega arith
 
-pub refused_near : (s : State) → refused_range s ≡ true → s.field.have ≤ limit
+pub refused_numbered : (s : State) → refused_range s ≡ true → Numbered s
 unfolding refused_range
-refused_near s e = let q = simp says at e in omega arith
+refused_numbered s e = let q = simp says at e in omega arith
 
-pub input_few : (k l g n : ℕ) (s : State) → input_numbers k l g n s ≡ true → (s.spot.index ≤ limit) × (s.spot.null ≤ n)
+pub some_kind : (n : ℕ) → 1 ≤ n → n ≤ 8 → ((kind : RefusalKind) → number_of kind ≡ n → ⊥) → ⊥
+some_kind n some few none =
+    let ne1 = none EndsEarly in
+    let ne2 = none LimitPassed in
+    let ne3 = none NotShortest in
+    let ne4 = none NoRecordLeft in
+    let ne5 = none BadPrefix in
+    let ne6 = none NullIssuance in
+    let ne7 = none BadFlag in
+    let ne8 = none EmptyWitnesses in
+    omega (arith, ne1, ne2, ne3, ne4, ne5, ne6, ne7, ne8)
+
+pub input_few : (k : Kind) (l g n : ℕ) (s : State) → input_numbers k l g n s ≡ true → (s.spot.index ≤ limit) × (s.spot.null ≤ n)
 unfolding input_numbers unwitnessed
 input_few k l g n s e = let q = simp says at e in (q.0.0.0.0.0.1.0.0.1, q.1)
 
-pub inputs_few : (k : ℕ) (s : State) → inputs_numbers k s ≡ true → (s.spot.index ≤ limit) × (s.spot.null ≤ 1)
+pub inputs_few : (k : Kind) (s : State) → inputs_numbers k s ≡ true → (s.spot.index ≤ limit) × (s.spot.null ≤ 1)
 unfolding inputs_numbers unwitnessed
 inputs_few k s e = let q = simp says at e in (q.0.0.0.0.1.0.0.1, omega (arith, q.1))
 
-pub output_few : (k : ℕ) (s : State) → output_numbers k s ≡ true → (s.counts.inputs ≤ limit) × (s.spot.index ≤ limit)
+pub output_few : (k : Kind) (s : State) → output_numbers k s ≡ true → (s.counts.inputs ≤ limit) × (s.spot.index ≤ limit)
 unfolding output_numbers unwitnessed
 output_few k s e = let q = simp says at e in (q.0.0.0.0.1, q.0.0.0.0.0.1.0.0.1)
 
-pub outputs_few : (k : ℕ) (s : State) → outputs_numbers k s ≡ true → (s.counts.inputs ≤ limit) × (s.spot.index ≤ limit)
+pub outputs_few : (k : Kind) (s : State) → outputs_numbers k s ≡ true → (s.counts.inputs ≤ limit) × (s.spot.index ≤ limit)
 unfolding outputs_numbers unwitnessed
 outputs_few k s e = let q = simp says at e in (q.0.0.0.0.1, q.0.0.0.0.0.1.0.0.1)
 
@@ -546,15 +574,15 @@ pub record Weighed (s : State) : Type 0 where
   pub index : s.spot.index ≤ limit
   pub empty : s.spot.empty ≤ 1
 
-pub input_witness_few : (k : ℕ) (s : State) → input_witness_numbers k s ≡ true → Weighed s
+pub input_witness_few : (k : Kind) (s : State) → input_witness_numbers k s ≡ true → Weighed s
 unfolding input_witness_numbers witness_numbers
 input_witness_few k s e = let (((((((((((((f, v), g), ir), i), or), o), n), l), is), u), em), x), z) = simp says at e in record { inputs = i; outputs = o; items = omega (arith, n); index = omega (arith, x, i); empty = em }
 
-pub output_witness_few : (k : ℕ) (s : State) → output_witness_numbers k s ≡ true → Weighed s
+pub output_witness_few : (k : Kind) (s : State) → output_witness_numbers k s ≡ true → Weighed s
 unfolding output_witness_numbers witness_numbers
 output_witness_few k s e = let (((((((((((((f, v), g), ir), i), or), o), n), l), is), u), em), x), z) = simp says at e in record { inputs = i; outputs = o; items = omega (arith, n); index = omega (arith, x, o); empty = em }
 
-pub stack_few : (k : ℕ) (s : State) → stack_numbers k s ≡ true → Weighed s
+pub stack_few : (k : Kind) (s : State) → stack_numbers k s ≡ true → Weighed s
 unfolding stack_numbers witness_numbers
 stack_few k s e = let (((((((((((((((f, v), g), ir), i), or), o), n), l), is), u), em), x), le), lr), z) = simp says at e in record { inputs = i; outputs = o; items = omega (arith, n); index = omega (arith, x, i); empty = em }
 

@@ -7,15 +7,20 @@ use lib.ListN.{get_or}
 use Rattle.layout.specs.Transaction.{◌▸◌}
 use Rattle.decoders.specs.Stages.{FLAG, INPUT_COUNT, SEQUENCE, INFLATION_KEYS, OUTPUT_COUNT, VALUE, NONCE, OUTPUT_SCRIPT, LOCKTIME, SCRIPT_ITEM, PEGIN_ITEM}
 use Rattle.decoders.specs.Machine.{OPAQUE, State}
-use Rattle.decoders.specs.Range.{NUMBER, BYTE, HIDDEN, COUNT, BODY, AMOUNT, TOKEN, size}
+use Rattle.decoders.specs.Range.{size}
+use Rattle.decoders.specs.declared.row.Kind.{Kind}
+use Rattle.decoders.specs.declared.row.Kind.TheVariants.{Number, Byte, Hidden, Count, Body, Amount, Token}
 
 -- what each stage reads
-abbrev pub kinds : List ℕ
+abbrev pub kinds : List Kind
 kinds =
-    NUMBER ∷ BYTE ∷ COUNT
-    ∷ HIDDEN ∷ NUMBER ∷ BODY ∷ NUMBER ∷ HIDDEN ∷ HIDDEN ∷ AMOUNT ∷ AMOUNT ∷ COUNT
-    ∷ TOKEN ∷ AMOUNT ∷ TOKEN ∷ BODY ∷ NUMBER
-    ∷ BODY ∷ BODY ∷ COUNT ∷ BODY ∷ COUNT ∷ BODY ∷ BODY ∷ BODY ∷ []
+    Number ∷ Byte ∷ Count
+    ∷ Hidden ∷ Number ∷ Body ∷ Number ∷ Hidden ∷ Hidden ∷ Amount ∷ Amount ∷ Count
+    ∷ Token ∷ Amount ∷ Token ∷ Body ∷ Number
+    ∷ Body ∷ Body ∷ Count ∷ Body ∷ Count ∷ Body ∷ Body ∷ Body ∷ []
+
+abbrev pub kind_at : ℕ → Kind
+kind_at stage = get_or kinds stage Number
 
 -- the least number of bytes of single fields before it: the head's, and those of its own record
 abbrev pub befores : List ℕ

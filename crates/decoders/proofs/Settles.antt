@@ -5,7 +5,6 @@ use mathlib.Core.Bool.{cond, Bool, true, false, ◌||◌}
 use native.Mathlib.Nat.{lt_of_lt_of_le, pow-le-pow_right}
 use native.Mathlib.Omega.{arith}
 use lib.Dec.{leb, eqb, lit<, lit≤}
-use lib.ListN.{get_or}
 use borrow.Author.Tests.{leb-true, eqb-true}
 use Rattle.layout.specs.Transaction.{announced, least, vout, flags, flag_bit, all_ones}
 use Rattle.layout.proofs.Reading.{by_cases}
@@ -13,15 +12,16 @@ use Rattle.decoders.specs.declared.Field.{Field}
 use Rattle.decoders.specs.declared.Sizes.{Sizes}
 use Rattle.decoders.specs.declared.Counts.{Counts}
 use Rattle.decoders.specs.declared.Spot.{Spot}
+use Rattle.decoders.specs.Needs.{Enterable}
 use Rattle.decoders.specs.Stages.{LOCKTIME}
 use Rattle.decoders.specs.Machine as m
 use Rattle.confidential.specs.Width.{value_width, asset_width, nonce_width}
 use Rattle.decoders.specs.Machine.{FURTHER, FIRST, OPAQUE, LITTLE, BIG, State, settle, settle_by, first_settled, further_settled, little_settled, big_settled, opaque_settled, value_part, asset_part, nonce_part, amount_next, keys_next, null_keys_next, asset_next, value_next, nonce_next, sequence_next, locktime_next}
-use Rattle.decoders.specs.Range.{least_forms, greatest_forms, least_width, greatest_width, own_bytes, in_range}
-use Rattle.decoders.proofs.Rows.{kinds, stacked, dark_at}
+use Rattle.decoders.specs.Range.{is_hidden, least_forms, greatest_forms, least_width, greatest_width, own_bytes, in_range}
+use Rattle.decoders.proofs.Rows.{kind_at, stacked, dark_at}
 use Rattle.decoders.proofs.Simulation.{st}
 use Rattle.decoders.proofs.Ranges.{From, from, ◌then◌, Numbers, Few, Stands, Ready, finished_range}
-use Rattle.decoders.proofs.Openings.{Fits, Ranged, Good, good, silent, tests, cond_ranged, cond_good, refused, Opens, opens, size_some, size_few, size_further, Behind, next_input_lem, next_input_witness_lem, Counted, inputs_counted_lem, outputs_counted_lem, script_counted_lem, pegin_counted_lem, Body, body_counted, input_script, output_script, amount_proof_lem, keys_proof_lem, script_item, pegin_item, surjection_proof_lem, range_proof_lem}
+use Rattle.decoders.proofs.Openings.{Ranged, Good, good, silent, tests, cond_ranged, cond_good, refused, Opens, opens, size_some, size_few, size_further, Behind, next_input_lem, next_input_witness_lem, Counted, inputs_counted_lem, outputs_counted_lem, script_counted_lem, pegin_counted_lem, Body, body_counted, input_script, output_script, amount_proof_lem, keys_proof_lem, script_item, pegin_item, surjection_proof_lem, range_proof_lem}
 
 -- ---- a stage and a form at which a whole field settles well
 
@@ -40,7 +40,7 @@ likewise h k e = record { taken = k.taken; version = k.version; no_version = k.n
 few_likewise : {σ : ℕ} {s : State} (h : Field) → Few σ s → Few σ (m.with_field h s)
 few_likewise h k = record { inputs = k.inputs; outputs = k.outputs; input_witnesses = k.input_witnesses; index = k.index; items = k.items; unlit = k.unlit; stacks = k.stacks }
 
-module _ (σ : ℕ) (running : σ ≤ 24) (further : get_or least_forms (get_or kinds σ 0) 0 ≡ 0) (deep : eqb (get_or kinds σ 0) 2 ≡ false) (late : (start : ℕ) (s : State) → Behind σ start s → 5 ≤ start) (counted : Counted σ) where
+module _ (σ : ℕ) (running : σ ≤ 24) (further : least_forms (kind_at σ) ≡ 0) (deep : is_hidden (kind_at σ) ≡ false) (late : (start : ℕ) (s : State) → Behind σ start s → 5 ≤ start) (counted : Counted σ) where
   first_at : At σ FIRST
   unfolding settle_by first_settled least_width greatest_width own_bytes
   first_at w h v t z c p e r =
@@ -272,15 +272,15 @@ module _ (w h v t : ℕ) (z : Sizes) (c : Counts) (p : Spot) (e : h ≡ w) where
 -- ---- by stage and form
 
 abbrev Forms : ℕ → Type 0
-Forms σ = From (At σ) (get_or least_forms (get_or kinds σ 0) 0) (suc (get_or greatest_forms (get_or kinds σ 0) 0) - get_or least_forms (get_or kinds σ 0) 0)
+Forms σ = From (At σ) (least_forms (kind_at σ)) (suc (greatest_forms (kind_at σ)) - least_forms (kind_at σ))
 
-counted_forms : (σ : ℕ) → σ ≤ 24 → get_or least_forms (get_or kinds σ 0) 0 ≡ 0 → eqb (get_or kinds σ 0) 2 ≡ false → ((start : ℕ) (s : State) → Behind σ start s → 5 ≤ start) → Counted σ → From (At σ) 0 2
+counted_forms : (σ : ℕ) → σ ≤ 24 → least_forms (kind_at σ) ≡ 0 → is_hidden (kind_at σ) ≡ false → ((start : ℕ) (s : State) → Behind σ start s → 5 ≤ start) → Counted σ → From (At σ) 0 2
 counted_forms σ h e d l k = further_at_lem σ h e d l k then first_at σ h e d l k then tt
 
 body_forms : (σ : ℕ) → Body σ → From (At σ) 0 3
 body_forms σ b =
-    let e = ap (λ (k : ℕ). get_or least_forms k 0) b.kind in
-    let d = ap (λ (k : ℕ). eqb k 2) b.kind in
+    let e = ap least_forms b.kind in
+    let d = ap is_hidden b.kind in
     let l : (start : ℕ) (s : State) → Behind σ start s → 5 ≤ start = λ start s r. omega (arith, b.late start s r) in
     further_at_lem σ b.stage e d l (body_counted σ b) then first_at σ b.stage e d l (body_counted σ b) then body_at_lem σ b then tt
 
@@ -316,8 +316,8 @@ stages =
 settle_good : (s : State) → Ready s → Good s.sizes (settle s)
 settle_good s r =
     let σ = s.field.stage in
-    let lo = get_or least_forms (get_or kinds σ 0) 0 in
-    let hi = get_or greatest_forms (get_or kinds σ 0) 0 in
+    let lo = least_forms (kind_at σ) in
+    let hi = greatest_forms (kind_at σ) in
     from (At σ) lo (suc hi - lo) s.field.form r.stands.above (omega (arith, r.stands.above, r.stands.below))
     (from Forms 0 25 σ (omega arith) (omega (arith, r.stage)) stages)
     s.field.width s.field.have s.field.value s.taken s.sizes s.counts s.spot r.have r.stands
@@ -325,5 +325,5 @@ settle_good s r =
 pub settle_range : (s : State) → Ready s → in_range (settle s).decoder ≡ true
 settle_range s r = (settle_good s r).ranged.range
 
-pub settle_fits : (s : State) → Ready s → Fits (settle s).entered s.sizes
+pub settle_fits : (s : State) → Ready s → Enterable (settle s).entered s.sizes
 settle_fits s r = (settle_good s r).fits

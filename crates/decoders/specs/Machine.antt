@@ -1,6 +1,6 @@
 -- The reader's state machine, as pure functions on its state. It says what every state does, forged ones too; proofs/ tie it to
 -- document 01's reading. `settle` is what happens when a field's last byte is taken; its bytes are counted in `taken` already.
-use Rattle.std.specs.Prelude.{ℕ, ◌+◌, ◌-◌, ◌*◌, ◌/◌, ◌%◌, ◌^◌, ◌≤◌, min, cond, ◌||◌, List, [], ◌∷◌, leb, ltb, eqb, set}
+use Rattle.std.specs.Prelude.{ℕ, ◌+◌, ◌-◌, ◌*◌, ◌/◌, ◌%◌, ◌^◌, ◌≤◌, min, cond, ◌||◌, List, [], ◌∷◌, leb, ltb, eqb, set, Option, Some, None}
 use Rattle.layout.specs.Layout.{Answer, refused, more}
 use Rattle.layout.specs.Outcome.{Tables}
 use Rattle.layout.specs.Transaction.{Head, limit, announced, least, vout, flags, flag_bit, ◌▸◌}
@@ -9,6 +9,8 @@ use Rattle.decoders.specs.declared.Field.{Field}
 use Rattle.decoders.specs.declared.Sizes.{Sizes}
 use Rattle.decoders.specs.declared.Counts.{Counts}
 use Rattle.decoders.specs.declared.Spot.{Spot}
+use Rattle.decoders.specs.declared.Table.{Table}
+use Rattle.decoders.specs.declared.Table.TheVariants.{Input, Output, Item}
 use Rattle.decoders.specs.declared.Entered.{Entered}
 use Rattle.decoders.specs.declared.Settled.{Settled}
 use Rattle.decoders.specs.declared.TransactionDecoder.{TransactionDecoder}
@@ -169,27 +171,27 @@ body_ends stage s =
 
 -- ---- what enters the tables
 
-abbrev pub entered : ℕ → ℕ → ℕ → ℕ → ℕ → ℕ → Entered
-entered table count at number at2 number2 = record { table = table; count = count; at = at; number = number; at2 = at2; number2 = number2 }
+abbrev pub entered : Table → ℕ → ℕ → Option ℕ → Entered
+entered table at number next = record { table = table; at = at; number = number; next = next }
 
 abbrev pub settled : State → Entered → Settled
-settled s e = record { decoder = s; entered = e }
+settled s e = record { decoder = s; entered = Some e }
 
 abbrev pub quiet : State → Settled
-quiet s = settled s (entered 0 0 0 0 0 0)
+quiet s = record { decoder = s; entered = None }
 
 -- one number, or two neighbours, of the present input, output or item record
 abbrev pub input1 : ℕ → ℕ → State → Entered
-input1 column n s = entered 1 1 (20 * s.spot.index + column) n 0 0
+input1 column n s = entered Input (20 * s.spot.index + column) n None
 
 abbrev pub input2 : ℕ → ℕ → ℕ → State → Entered
-input2 column n m s = entered 1 2 (20 * s.spot.index + column) n (20 * s.spot.index + column + 1) m
+input2 column n m s = entered Input (20 * s.spot.index + column) n (Some m)
 
 abbrev pub output2 : ℕ → ℕ → ℕ → State → Entered
-output2 column n m s = entered 2 2 (14 * s.spot.index + column) n (14 * s.spot.index + column + 1) m
+output2 column n m s = entered Output (14 * s.spot.index + column) n (Some m)
 
 abbrev pub item2 : ℕ → ℕ → State → Entered
-item2 n m s = entered 3 2 (2 * s.counts.items) n (2 * s.counts.items + 1) m
+item2 n m s = entered Item (2 * s.counts.items) n (Some m)
 
 -- ---- counts and lengths
 
@@ -273,6 +275,17 @@ asset_part s = cond (eqb (asset_width s.field.value) 33) (opaque s.field.stage s
 
 unfoldable pub nonce_part : State → State
 nonce_part s = cond (eqb (nonce_width s.field.value) 33) (opaque s.field.stage s) (refuse 5 (s.taken - 1) s)
+
+-- the same of any of the three, by the width of the whole field: only a value's is ever 9
+unfoldable pub part : ℕ → State → State
+part width s =
+    cond (eqb width 9) (opened s.taken s.field.stage BIG 8 s) ▸
+    cond (eqb width 33) (opaque s.field.stage s) ▸
+    refuse 5 (s.taken - 1) s
+
+-- behind a null one stands the next field's first byte
+unfoldable pub part_next : ℕ → ℕ → ℕ → State → State
+part_next width stage form s = cond (eqb s.field.value 0) (opened s.taken stage form 1 s) (part width s)
 
 -- an issuance's amount: whether it is null is kept for the keys
 unfoldable pub amount_next : State → State
@@ -415,15 +428,21 @@ gathered k v s =
       spot = s.spot;
     }
 
-abbrev pub stored : Entered → List ℕ → List ℕ
-stored e xs = cond (eqb e.count 0) xs ▸ cond (eqb e.count 1) (set xs e.at e.number) ▸ set (set xs e.at e.number) e.at2 e.number2
+abbrev pub next_stored : Option ℕ → ℕ → List ℕ → List ℕ
+next_stored None at xs = xs
+next_stored (Some n) at xs = set xs at n
 
-abbrev pub enter_by : ℕ → Entered → Tables → Tables
-enter_by table e t =
-    cond (eqb table 0) t ▸
-    cond (eqb table 1) (record { inputs = stored e t.inputs; outputs = t.outputs; items = t.items }) ▸
-    cond (eqb table 2) (record { inputs = t.inputs; outputs = stored e t.outputs; items = t.items }) ▸
-    record { inputs = t.inputs; outputs = t.outputs; items = stored e t.items }
+abbrev pub stored : Entered → List ℕ → List ℕ
+stored e xs = next_stored e.next (e.at + 1) (set xs e.at e.number)
+
+abbrev pub enter_by : Table → Entered → Tables → Tables
+enter_by Input e t = record { inputs = stored e t.inputs; outputs = t.outputs; items = t.items }
+enter_by Output e t = record { inputs = t.inputs; outputs = stored e t.outputs; items = t.items }
+enter_by Item e t = record { inputs = t.inputs; outputs = t.outputs; items = stored e t.items }
+
+abbrev pub enter : Option Entered → Tables → Tables
+enter None t = t
+enter (Some e) t = enter_by e.table e t
 
 -- a state with the tables it fills
 pub record Machine : Type 0 where
@@ -434,7 +453,7 @@ abbrev pub machine : State → Tables → Machine
 machine s t = record { state = s; tables = t }
 
 unfoldable pub entering : Settled → Tables → Machine
-entering r t = machine r.decoder (enter_by r.entered.table r.entered t)
+entering r t = machine r.decoder (enter r.entered t)
 
 -- an ended state stays as it is; a field whose last byte this is settles
 unfoldable pub step : Machine → ℕ → Machine

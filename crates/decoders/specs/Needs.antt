@@ -1,15 +1,22 @@
 -- What private functions need of each other: nothing public cites it, and no promise depends on it.
-use Rattle.std.specs.Prelude.{ℕ, ◌+◌, ◌-◌, ◌^◌, ◌<◌, ◌≤◌, min, ◌≡◌, Bool, true, false, cond, not, List, eqb, leb, ltb, length, take, get_or}
-use Rattle.layout.specs.Outcome.{Tables}
+use Rattle.std.specs.Prelude.{ℕ, ◌+◌, ◌-◌, ◌^◌, ◌<◌, ◌≤◌, min, ◌≡◌, Bool, true, false, cond, not, Result, MatchResult, List, eqb, leb, ltb, length, take, Option, MatchOption}
+use Rattle.layout.specs.Outcome.{Tables, Outcome}
+use Rattle.layout.specs.Number.{value, little, big}
+use Rattle.encode.specs.declared.refusal.RefusalKind.{RefusalKind}
+use Rattle.encode.specs.Refusal.{number_of}
 use Rattle.decoders.specs.declared.Sizes.{Sizes}
+use Rattle.decoders.specs.declared.Table.{Table}
+use Rattle.decoders.specs.declared.Table.TheVariants.{Input, Output, Item}
 use Rattle.decoders.specs.declared.Entered.{Entered}
 use Rattle.decoders.specs.declared.Head.{Head}
+use Rattle.decoders.specs.declared.Answer.TheVariants.{Refused}
+use Rattle.decoders.specs.declared.Fed.{Fed}
 use Rattle.layout.specs.Transaction.{limit, least}
 use Rattle.decoders.specs.declared.Settled.{Settled}
-use Rattle.decoders.specs.Stages.{RANGE_PROOF, FINISHED}
-use Rattle.decoders.specs.Machine.{OPAQUE, State, first_settled, further_settled}
+use Rattle.decoders.specs.Stages.{RANGE_PROOF, FINISHED, REFUSED}
+use Rattle.decoders.specs.Machine.{OPAQUE, BIG, State, Machine, machine, fed, first_settled, further_settled}
 use Rattle.decoders.specs.Range.{in_range}
-use Rattle.decoders.specs.Feeding.{sizes_of}
+use Rattle.decoders.specs.Feeding.{sizes_of, Out, begun, gate, finish}
 
 -- a finished state's head numbers, as the code has them
 abbrev pub head_told : State → Head
@@ -52,25 +59,26 @@ pub record Ending (i o n t : ℕ) : Type 0 where
 abbrev pub Endable : State → Type 0
 Endable s = Ending s.counts.inputs s.counts.outputs s.counts.items s.taken
 
+-- and of a refused state's: its number is a refusal's of a reading, and its place lies within the bytes taken
+pub record Numbered (s : State) : Type 0 where
+  pub some : 1 ≤ s.field.value
+  pub few : s.field.value ≤ 8
+  pub place : s.field.have ≤ s.taken
+
 -- how many numbers the table of an entry holds
-abbrev pub size_by : ℕ → Sizes → ℕ
-size_by table z = cond (eqb table 1) z.inputs (cond (eqb table 2) z.outputs z.items)
+abbrev pub size_by : Table → Sizes → ℕ
+size_by Input z = z.inputs
+size_by Output z = z.outputs
+size_by Item z = z.items
 
 -- what the code needs of an entry: its places lie in a table of n numbers, and its numbers fit a u32
 pub record Storable (e : Entered) (n : ℕ) : Type 0 where
-  pub count : e.count ≤ 2
-  pub at : 0 < e.count → e.at < n
-  pub at2 : e.count ≡ 2 → e.at2 < n
+  pub at : e.at < n
   pub number : e.number < 2 ^ 32
-  pub number2 : e.number2 < 2 ^ 32
+  pub next : MatchOption e.next (Unit {0}) (λ m. (e.at + 1 < n) × (m < 2 ^ 32))
 
-abbrev pub Enterable : Entered → Sizes → Type 0
-Enterable e z = Storable e (size_by e.table z)
-
--- a byte of a slice
-pub record ByteAt (xs : List ℕ) (i r : ℕ) : Type 0 where
-  pub is : r ≡ get_or xs i 0
-  pub small : r < 256
+abbrev pub Enterable : Option Entered → Sizes → Type 0
+Enterable e z = MatchOption e (Unit {0}) (λ x. Storable x (size_by x.table z))
 
 -- what the code needs while it gathers: a number has at most 8 bytes, and its value so far is below 256 ^ have
 pub record Worthy (form value have b : ℕ) : Type 0 where
@@ -82,6 +90,10 @@ pub record Worthy (form value have b : ℕ) : Type 0 where
 pub record Gathers (form value have n : ℕ) : Type 0 where
   pub number : (form ≡ OPAQUE → ⊥) → have + n ≤ 8
   pub below : value < 256 ^ have
+
+-- what all bytes of a number make, by its form
+abbrev pub whole : ℕ → List ℕ → ℕ
+whole form xs = cond (eqb form BIG) (value big xs) (value little xs)
 
 pub record Fits (k : ℕ) (s : State) : Type 0 where
   pub have : s.field.have + k ≤ limit
@@ -112,5 +124,25 @@ pub record Headed (s : State) : Type 0 where
   pub locktime : s.counts.locktime < 2 ^ 32
   pub bytes : s.taken < 2 ^ 32
 
+-- and to answer: a refused state's number is a kind's
+abbrev pub Listed : ℕ → Type 0
+Listed n = (kind : RefusalKind) × (number_of kind ≡ n)
+
 pub record Closes (s : State) : Type 0 where
   pub headed : s.field.stage ≡ FINISHED → Headed s
+  pub listed : s.field.stage ≡ REFUSED → Listed s.field.value
+
+-- the gate lets a call through, or it refuses a misuse by its kind
+abbrev pub Gated : State → Sizes → Result (Unit {0}) RefusalKind → Type 0
+Gated s z r = MatchResult r (λ _. gate s z ≡ 0) (λ kind. number_of kind ≡ gate s z)
+
+abbrev pub misused : RefusalKind → State → Fed
+misused kind s = record { decoder = s; taken = 0; answer = Refused (record { kind = kind; place = 0 }) }
+
+-- a fresh start fed all bytes at once, and finished
+abbrev pub through : Tables → List ℕ → Machine
+through t xs = machine (finish (fed (begun t) xs).state) (fed (begun t) xs).tables
+
+-- what a call that ends shows, without its state
+abbrev pub outcome_of : Out → Outcome
+outcome_of o = record { answer = o.answer; taken = o.taken; tables = o.tables }

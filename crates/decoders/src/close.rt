@@ -1,64 +1,67 @@
 // Where a call starts and ends: the gate, the answer, and the tables of a refused reading.
 ghost use Rattle.std.specs.Prelude.{◌≡◌};
-ghost use Rattle.decoders.specs.Machine.{answer_of, fresh};
-ghost use Rattle.decoders.specs.Feeding.{told, tables, sizes, out_of, gate, finish, follow, closed};
-ghost use Rattle.decoders.specs.Needs.{head_told, Headed, Closes};
+ghost use Rattle.decoders.specs.Machine.{answer_of, fresh, machine};
+ghost use Rattle.decoders.specs.Feeding.{told, tables, sizes_of, out_of, whole_of, finish, follow, closed};
+ghost use Rattle.decoders.specs.Needs.{head_told, misused, Headed, Closes, Gated, through, outcome_of};
 
-use crate::{Answer, Counts, Fed, Field, Head, Sizes, Spot, TransactionDecoder, stages, tables};
+use crate::{
+    Answer, Counts, Fed, Field, Head, Read, RefusalKind, Sizes, Spot, TransactionDecoder, stages,
+    tables,
+};
 
-pub(crate) fn fresh(inputs: usize, outputs: usize, items: usize) -> TransactionDecoder
-    ensures { result ≡ fresh (sizes inputs outputs items) }
+impl Sizes {
+    pub(crate) fn of(inputs: &[u32], outputs: &[u32], items: &[u32]) -> Sizes
+        ensures { result ≡ sizes_of (tables inputs.now outputs.now items.now) }
+    {
+        Sizes {
+            inputs: inputs.len(),
+            outputs: outputs.len(),
+            items: items.len(),
+        }
+    }
+}
+
+pub(crate) fn fresh(sizes: Sizes) -> TransactionDecoder
+    ensures { result ≡ fresh sizes }
 {
     TransactionDecoder {
         field: Field {
             stage: stages::VERSION,
             form: stages::LITTLE,
             width: 4,
-            have: 0,
-            value: 0,
+            ..Field::default()
         },
         taken: 0,
-        sizes: Sizes {
-            inputs: inputs,
-            outputs: outputs,
-            items: items,
-        },
-        counts: Counts {
-            version: 0,
-            flag: 0,
-            inputs: 0,
-            outputs: 0,
-            items: 0,
-            locktime: 0,
-        },
-        spot: Spot {
-            index: 0,
-            left: 0,
-            issuance: 0,
-            null: 0,
-            empty: 0,
-        },
+        sizes,
+        counts: Counts::default(),
+        spot: Spot::default(),
     }
 }
 
 impl TransactionDecoder {
-    // 0, or the number of a misuse: 11 before 10.
-    pub(crate) fn gate(self, inputs: usize, outputs: usize, items: usize) -> usize
-        ensures { result ≡ gate self (sizes inputs outputs items) }
+    // A misuse is refused: 11 before 10.
+    pub(crate) fn gate(self, lent: Sizes) -> Result<(), RefusalKind>
+        ensures { Gated self lent result }
     {
         if !self.in_range() {
-            return 11;
+            return Err(RefusalKind::StateForged);
         }
-        if self.sizes.inputs != inputs {
-            return 10;
+        if self.sizes == lent {
+            Ok(())
+        } else {
+            Err(RefusalKind::TablesDiffer)
         }
-        if self.sizes.outputs != outputs {
-            return 10;
+    }
+
+    // A misuse takes nothing and leaves the state; its place is 0.
+    pub(crate) fn misused(self, kind: RefusalKind) -> Fed
+        ensures { result ≡ misused kind self }
+    {
+        Fed {
+            decoder: self,
+            taken: 0,
+            answer: Answer::Refused(kind.at(0)),
         }
-        if self.sizes.items != items {
-            return 10;
-        }
-        0
     }
 
     // The head numbers of a finished reading.
@@ -77,14 +80,19 @@ impl TransactionDecoder {
         }
     }
 
+    // `Closes` stands here, in `close` and in `shown`: as a type it would be made in push_bytes, end, read and read_strict, four places for three
+    // clauses, and opened again, since the plain state is handed back.
     pub(crate) fn answer(self) -> Answer
         requires { Closes self }
-        ensures { result ≡ told (answer_of self) }
+        ensures { told result ≡ answer_of self }
     {
         if self.field.stage == stages::FINISHED {
             Answer::Finished(self.head())
         } else if self.field.stage == stages::REFUSED {
-            Answer::Refused(self.field.value, self.field.have)
+            let Ok(kind) = RefusalKind::try_from(self.field.value) else {
+                unreachable!()
+            };
+            Answer::Refused(kind.at(self.field.have))
         } else {
             Answer::More
         }
@@ -98,7 +106,7 @@ impl TransactionDecoder {
             self
         } else {
             let place = self.taken;
-            self.refuse(1, place)
+            self.refuse(RefusalKind::EndsEarly, place)
         }
     }
 
@@ -109,7 +117,7 @@ impl TransactionDecoder {
         let taken = self.taken;
         if self.field.stage == stages::FINISHED {
             if taken < there {
-                self.refuse(9, taken)
+                self.refuse(RefusalKind::BytesFollow, taken)
             } else {
                 self
             }
@@ -132,16 +140,37 @@ impl TransactionDecoder {
         let answer = self.answer();
         if self.field.stage == stages::REFUSED {
             tables::zero_all(inputs, outputs, items);
-            return Fed {
-                decoder: self,
-                taken: taken,
-                answer: answer,
-            };
         }
         Fed {
             decoder: self,
-            taken: taken,
-            answer: answer,
+            taken,
+            answer,
+        }
+    }
+
+    // A fresh start, fed one piece and finished.
+    pub(crate) fn through(
+        piece: &[u8],
+        inputs: &mut [u32],
+        outputs: &mut [u32],
+        items: &mut [u32],
+    ) -> TransactionDecoder
+        ensures { machine result (tables inputs.new outputs.new items.new) ≡ through (tables inputs.old outputs.old items.old) piece.now }
+    {
+        TransactionDecoder::new(inputs, outputs, items)
+            .run(piece, inputs, outputs, items)
+            .finish()
+    }
+
+    // What reading at once hands back.
+    pub(crate) fn shown(self, inputs: &mut [u32], outputs: &mut [u32], items: &mut [u32]) -> Read
+        requires { Closes self }
+        ensures { whole_of result (tables inputs.new outputs.new items.new) ≡ outcome_of (closed self self.taken (tables inputs.old outputs.old items.old)) }
+    {
+        let fed = self.close(self.taken, inputs, outputs, items);
+        Read {
+            taken: fed.taken,
+            answer: fed.answer,
         }
     }
 }

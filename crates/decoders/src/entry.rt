@@ -1,8 +1,10 @@
-// What a settled field enters: one number or two neighbours of the present record.
-ghost use Rattle.std.specs.Prelude.{◌≡◌, ◌≤◌};
-ghost use Rattle.decoders.specs.Machine.{quiet, settled, input1, input2, output2, item2, Safe};
+// What a settled field enters: nothing, or one number or two neighbours of the present record.
+ghost use Rattle.std.specs.Prelude.{◌≡◌, ◌+◌, ◌*◌, ◌≤◌};
+ghost use Rattle.decoders.specs.declared.Table.TheVariants.{Input};
+ghost use Rattle.decoders.specs.Machine.{quiet, settled, entered, output2, item2};
 
-use crate::{Entered, Settled, TransactionDecoder};
+use crate::settling::Settling;
+use crate::{Entered, Settled, Table, TransactionDecoder};
 
 impl TransactionDecoder {
     pub(crate) fn settled(self, entered: Entered) -> Settled
@@ -10,87 +12,55 @@ impl TransactionDecoder {
     {
         Settled {
             decoder: self,
-            entered: entered,
+            entered: Some(entered),
         }
     }
 
     pub(crate) fn quiet(self) -> Settled
         ensures { result ≡ quiet self }
     {
-        let entered = Entered {
-            table: 0,
-            count: 0,
-            at: 0,
-            number: 0,
-            at2: 0,
-            number2: 0,
-        };
-        self.settled(entered)
+        Settled {
+            decoder: self,
+            entered: None,
+        }
     }
+}
 
-    pub(crate) fn input1(self, column: usize, n: usize) -> Entered
-        requires safe { Safe self }
-        requires column_bound { column ≤ 19 }
-        ensures { result ≡ input1 column n self }
+impl Settling {
+    // Three constructors of Entered and not one with the table and its width: `next` is there or not for an input, and always for the others, as
+    // input1, input2, output2 and item2 of specs/Machine say, and an item's place is its number, not the record's.
+    pub(crate) fn input(self, column: usize, number: usize, next: Option<usize>) -> Entered
+        requires { column ≤ 19 }
+        ensures { result ≡ entered Input (20 * self.decoder.spot.index + column) number next }
     {
-        let at = TransactionDecoder::INPUT_WIDTH * self.spot.index + column;
         Entered {
-            table: 1,
-            count: 1,
-            at: at,
-            number: n,
-            at2: 0,
-            number2: 0,
+            table: Table::Input,
+            at: TransactionDecoder::INPUT_WIDTH * self.decoder.spot.index + column,
+            number,
+            next,
         }
     }
 
-    pub(crate) fn input2(self, column: usize, n: usize, m: usize) -> Entered
-        requires safe { Safe self }
-        requires column_bound { column ≤ 18 }
-        ensures { result ≡ input2 column n m self }
+    pub(crate) fn output(self, column: usize, number: usize, next: usize) -> Entered
+        requires { column ≤ 12 }
+        ensures { result ≡ output2 column number next self.decoder }
     {
-        let at = TransactionDecoder::INPUT_WIDTH * self.spot.index + column;
-        let at2 = at + 1;
         Entered {
-            table: 1,
-            count: 2,
-            at: at,
-            number: n,
-            at2: at2,
-            number2: m,
+            table: Table::Output,
+            at: TransactionDecoder::OUTPUT_WIDTH * self.decoder.spot.index + column,
+            number,
+            next: Some(next),
         }
     }
 
-    pub(crate) fn output2(self, column: usize, n: usize, m: usize) -> Entered
-        requires safe { Safe self }
-        requires column_bound { column ≤ 12 }
-        ensures { result ≡ output2 column n m self }
+    pub(crate) fn item(self, number: usize, next: usize) -> Entered
+        ensures { result ≡ item2 number next self.decoder }
     {
-        let at = TransactionDecoder::OUTPUT_WIDTH * self.spot.index + column;
-        let at2 = at + 1;
         Entered {
-            table: 2,
-            count: 2,
-            at: at,
-            number: n,
-            at2: at2,
-            number2: m,
-        }
-    }
-
-    pub(crate) fn item2(self, n: usize, m: usize) -> Entered
-        requires { Safe self }
-        ensures { result ≡ item2 n m self }
-    {
-        let at = TransactionDecoder::ITEM_WIDTH * self.counts.items;
-        let at2 = at + 1;
-        Entered {
-            table: 3,
-            count: 2,
-            at: at,
-            number: n,
-            at2: at2,
-            number2: m,
+            table: Table::Item,
+            at: TransactionDecoder::ITEM_WIDTH * self.decoder.counts.items,
+            number,
+            next: Some(next),
         }
     }
 }

@@ -8,7 +8,9 @@ mod feed;
 mod prefix;
 mod range;
 mod records;
+mod row;
 mod settle;
+mod settling;
 mod stages;
 mod state;
 mod tables;
@@ -17,8 +19,10 @@ ghost use Rattle.std.specs.Prelude.{◌≡◌};
 ghost use Rattle.decoders.specs.Machine.{machine};
 ghost use Rattle.decoders.specs.Feeding.{tables, begun, out_of, pushed, ended, whole_of, read_once, read_strict};
 
+pub use encode::{Refusal, RefusalKind};
+
 // The field that is being gathered: its stage and form, its width in bytes, how many of them are there, and what they are worth.
-#[derive(Clone, Copy)]
+#[derive(Clone, Copy, Default)]
 pub struct Field {
     pub stage: usize,
     pub form: usize,
@@ -28,7 +32,7 @@ pub struct Field {
 }
 
 // How many numbers each lent table holds.
-#[derive(Clone, Copy)]
+#[derive(Clone, Copy, PartialEq)]
 pub struct Sizes {
     pub inputs: usize,
     pub outputs: usize,
@@ -36,7 +40,7 @@ pub struct Sizes {
 }
 
 // The head numbers so far; items is the next item's number.
-#[derive(Clone, Copy)]
+#[derive(Clone, Copy, Default, PartialEq, Eq)]
 pub struct Counts {
     pub version: usize,
     pub flag: usize,
@@ -47,7 +51,7 @@ pub struct Counts {
 }
 
 // Where the reading stands: the record's number, the items left in its stack, and what later fields need of earlier ones.
-#[derive(Clone, Copy)]
+#[derive(Clone, Copy, Default, PartialEq, Eq)]
 pub struct Spot {
     pub index: usize,
     pub left: usize,
@@ -66,21 +70,27 @@ pub struct TransactionDecoder {
     pub spot: Spot,
 }
 
-// Up to two numbers that go into a table: 0 none, 1 input, 2 output, 3 item; each with its own place there.
+// One of the three lent tables.
+#[derive(Clone, Copy)]
+pub enum Table {
+    Input,
+    Output,
+    Item,
+}
+
+// What goes into a table: a number with its place there, and the one behind it where two neighbours enter at once.
 #[derive(Clone, Copy)]
 pub struct Entered {
-    pub table: usize,
-    pub count: usize,
+    pub table: Table,
     pub at: usize,
     pub number: usize,
-    pub at2: usize,
-    pub number2: usize,
+    pub next: Option<usize>,
 }
 
 #[derive(Clone, Copy)]
 pub struct Settled {
     pub decoder: TransactionDecoder,
-    pub entered: Entered,
+    pub entered: Option<Entered>,
 }
 
 // Beside the tables, when a reading is finished.
@@ -95,12 +105,12 @@ pub struct Head {
     pub bytes: u32,
 }
 
-// Finished is answer 0; more wanted is a case by itself; a refusal has its number and place.
+// Finished is answer 0; more wanted is a case by itself; a refusal has its kind and place.
 #[derive(Clone, Copy)]
 pub enum Answer {
     Finished(Head),
     More,
-    Refused(usize, usize),
+    Refused(Refusal),
 }
 
 // What feeding and finishing hand back: the state, the bytes taken from the piece, the answer.
@@ -132,11 +142,9 @@ impl TransactionDecoder {
     pub fn new(inputs: &mut [u32], outputs: &mut [u32], items: &mut [u32]) -> TransactionDecoder
         ensures { machine result (tables inputs.new outputs.new items.new) ≡ begun (tables inputs.old outputs.old items.old) }
     {
-        let i = inputs.len();
-        let o = outputs.len();
-        let n = items.len();
+        let sizes = Sizes::of(inputs, outputs, items);
         tables::zero_all(inputs, outputs, items);
-        close::fresh(i, o, n)
+        close::fresh(sizes)
     }
 
     // Feeds a piece. An ended reading takes no more and repeats its answer; 10 and 11 change nothing.
@@ -149,17 +157,12 @@ impl TransactionDecoder {
     ) -> Fed
         ensures { out_of result (tables inputs.new outputs.new items.new) ≡ pushed self (tables inputs.old outputs.old items.old) piece.now }
     {
-        let gate = self.gate(inputs.len(), outputs.len(), items.len());
-        if gate != 0 {
-            return Fed {
-                decoder: self,
-                taken: 0,
-                answer: Answer::Refused(gate, 0),
-            };
+        if let Err(kind) = self.gate(Sizes::of(inputs, outputs, items)) {
+            return self.misused(kind);
         }
         let before = self.taken;
         self = self.run(piece, inputs, outputs, items);
-        let taken = state::minus(self.taken, before);
+        let taken = self.taken.saturating_sub(before);
         self.close(taken, inputs, outputs, items)
     }
 
@@ -167,13 +170,8 @@ impl TransactionDecoder {
     pub fn end(mut self, inputs: &mut [u32], outputs: &mut [u32], items: &mut [u32]) -> Fed
         ensures { out_of result (tables inputs.new outputs.new items.new) ≡ ended self (tables inputs.old outputs.old items.old) }
     {
-        let gate = self.gate(inputs.len(), outputs.len(), items.len());
-        if gate != 0 {
-            return Fed {
-                decoder: self,
-                taken: 0,
-                answer: Answer::Refused(gate, 0),
-            };
+        if let Err(kind) = self.gate(Sizes::of(inputs, outputs, items)) {
+            return self.misused(kind);
         }
         self = self.finish();
         self.close(0, inputs, outputs, items)
@@ -183,15 +181,8 @@ impl TransactionDecoder {
     pub fn read(piece: &[u8], inputs: &mut [u32], outputs: &mut [u32], items: &mut [u32]) -> Read
         ensures { whole_of result (tables inputs.new outputs.new items.new) ≡ read_once (tables inputs.old outputs.old items.old) piece.now }
     {
-        let decoder = TransactionDecoder::new(inputs, outputs, items);
-        let next = decoder.run(piece, inputs, outputs, items);
-        let done = next.finish();
-        let fed = done.close(done.taken, inputs, outputs, items);
-        let answer = fed.answer;
-        Read {
-            taken: fed.taken,
-            answer: answer,
-        }
+        let done = TransactionDecoder::through(piece, inputs, outputs, items);
+        done.shown(inputs, outputs, items)
     }
 
     // The strict form: 9 where bytes follow a finished transaction.
@@ -203,14 +194,7 @@ impl TransactionDecoder {
     ) -> Read
         ensures { whole_of result (tables inputs.new outputs.new items.new) ≡ read_strict (tables inputs.old outputs.old items.old) piece.now }
     {
-        let decoder = TransactionDecoder::new(inputs, outputs, items);
-        let next = decoder.run(piece, inputs, outputs, items);
-        let done = next.finish().follow(piece.len());
-        let fed = done.close(done.taken, inputs, outputs, items);
-        let answer = fed.answer;
-        Read {
-            taken: fed.taken,
-            answer: answer,
-        }
+        let done = TransactionDecoder::through(piece, inputs, outputs, items);
+        done.follow(piece.len()).shown(inputs, outputs, items)
     }
 }

@@ -1,126 +1,86 @@
 // Values, assets and nonces: the prefix, and what it announces.
 ghost use Rattle.std.specs.Prelude.{◌≡◌};
-ghost use Rattle.decoders.specs.Machine.{value_part, asset_part, nonce_part, amount_next, null_keys_next, keys_next, asset_next, value_next, nonce_next, Safe};
+ghost use Rattle.decoders.specs.Machine.{part, part_next, amount_next, null_keys_next, keys_next, asset_next, value_next, nonce_next};
 
-use crate::{TransactionDecoder, stages, state};
+use crate::settling::Settling;
+use crate::{TransactionDecoder, stages};
+use confidential::{Asset, Confidential, Nonce, Value};
+use encode::RefusalKind;
 
-impl TransactionDecoder {
-    // 5: prefix not listed.
-    pub(crate) fn value_part(self) -> TransactionDecoder
-        requires { Safe self }
-        ensures { result ≡ value_part self }
+impl Settling {
+    // Behind prefix 1 a value has a number of 8 bytes. 5: prefix not listed.
+    fn part<K: Confidential>(self) -> TransactionDecoder
+        ensures { result ≡ part (K.width self.decoder.field.value) self.decoder }
     {
-        let stage = self.field.stage;
-        let at = self.taken;
-        let width = confidential::value::width(self.field.value);
-        if width == 9 {
-            self.opened(at, stage, stages::BIG, 8)
-        } else if width == 33 {
-            self.opaque(stage)
-        } else {
-            let place = state::minus(at, 1);
-            self.refuse(5, place)
+        let stage = self.decoder.field.stage;
+        let at = self.decoder.taken;
+        match confidential::width::<K>(self.decoder.field.value) {
+            Some(9) => self.decoder.opened(at, stage, stages::BIG, 8),
+            Some(33) => self.decoder.opaque(stage),
+            _ => {
+                let place = at.saturating_sub(1);
+                self.decoder.refuse(RefusalKind::BadPrefix, place)
+            }
         }
     }
 
-    pub(crate) fn asset_part(self) -> TransactionDecoder
-        requires { Safe self }
-        ensures { result ≡ asset_part self }
+    // Behind a null one the next field begins.
+    fn part_next<K: Confidential>(self, stage: usize, form: usize) -> TransactionDecoder
+        ensures { result ≡ part_next (K.width self.decoder.field.value) stage form self.decoder }
     {
-        let stage = self.field.stage;
-        let at = self.taken;
-        let width = confidential::asset::width(self.field.value);
-        if width == 33 {
-            self.opaque(stage)
+        if self.decoder.field.value == 0 {
+            let place = self.decoder.taken;
+            self.decoder.opened(place, stage, form, 1)
         } else {
-            let place = state::minus(at, 1);
-            self.refuse(5, place)
-        }
-    }
-
-    pub(crate) fn nonce_part(self) -> TransactionDecoder
-        requires { Safe self }
-        ensures { result ≡ nonce_part self }
-    {
-        let stage = self.field.stage;
-        let at = self.taken;
-        let width = confidential::nonce::width(self.field.value);
-        if width == 33 {
-            self.opaque(stage)
-        } else {
-            let place = state::minus(at, 1);
-            self.refuse(5, place)
+            self.part::<K>()
         }
     }
 
     // Whether an issuance's amount is null is kept for its keys.
     pub(crate) fn amount_next(mut self) -> TransactionDecoder
-        requires { Safe self }
-        ensures { result ≡ amount_next self }
+        ensures { result ≡ amount_next self.decoder }
     {
-        if self.field.value == 0 {
-            self.spot.null = 1;
-            self.number(stages::INFLATION_KEYS, 1)
-        } else {
-            self.spot.null = 0;
-            self.value_part()
-        }
+        self.decoder.spot.null = usize::from(self.decoder.field.value == 0);
+        self.part_next::<Value>(stages::INFLATION_KEYS, stages::LITTLE)
     }
 
     // 6: a null issuance, placed at its start, 66 bytes back.
     pub(crate) fn null_keys_next(self) -> TransactionDecoder
-        requires { Safe self }
-        ensures { result ≡ null_keys_next self }
+        ensures { result ≡ null_keys_next self.decoder }
     {
-        if self.spot.null == 1 {
-            let place = state::minus(self.taken, 66);
-            self.refuse(6, place)
+        if self.decoder.spot.null == 1 {
+            let place = self.decoder.taken.saturating_sub(66);
+            self.decoder.refuse(RefusalKind::NullIssuance, place)
         } else {
             self.input_ends()
         }
     }
 
     pub(crate) fn keys_next(self) -> TransactionDecoder
-        requires { Safe self }
-        ensures { result ≡ keys_next self }
+        ensures { result ≡ keys_next self.decoder }
     {
-        if self.field.value == 0 {
+        if self.decoder.field.value == 0 {
             self.null_keys_next()
         } else {
-            self.value_part()
+            self.part::<Value>()
         }
     }
 
     pub(crate) fn asset_next(self) -> TransactionDecoder
-        requires { Safe self }
-        ensures { result ≡ asset_next self }
+        ensures { result ≡ asset_next self.decoder }
     {
-        if self.field.value == 0 {
-            self.number(stages::VALUE, 1)
-        } else {
-            self.asset_part()
-        }
+        self.part_next::<Asset>(stages::VALUE, stages::LITTLE)
     }
 
     pub(crate) fn value_next(self) -> TransactionDecoder
-        requires { Safe self }
-        ensures { result ≡ value_next self }
+        ensures { result ≡ value_next self.decoder }
     {
-        if self.field.value == 0 {
-            self.number(stages::NONCE, 1)
-        } else {
-            self.value_part()
-        }
+        self.part_next::<Value>(stages::NONCE, stages::LITTLE)
     }
 
     pub(crate) fn nonce_next(self) -> TransactionDecoder
-        requires { Safe self }
-        ensures { result ≡ nonce_next self }
+        ensures { result ≡ nonce_next self.decoder }
     {
-        if self.field.value == 0 {
-            self.compact(stages::OUTPUT_SCRIPT)
-        } else {
-            self.nonce_part()
-        }
+        self.part_next::<Nonce>(stages::OUTPUT_SCRIPT, stages::FIRST)
     }
 }

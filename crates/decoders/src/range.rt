@@ -1,152 +1,14 @@
 // The range test of refusal 11. A caller can hand in any numbers, so no sum or difference here relies on a state being right.
 // docs/STATE.md has the test as tables, specs/Range.antt as definitions: the same rows, one a stage.
-ghost use Rattle.std.specs.Prelude.{◌≡◌, cond, ◌&&◌, ◌+◌, ◌*◌, ◌^◌, ◌≤◌, min, get_or};
+ghost use Rattle.std.specs.Prelude.{◌≡◌, cond, ◌&&◌, ◌+◌, ◌*◌, ◌≤◌};
 ghost use Rattle.layout.specs.Transaction.{limit};
 ghost use Rattle.decoders.specs.Range as range;
-ghost use Rattle.decoders.specs.Range.{size, least_forms, greatest_forms, least_width, greatest_width, own_bytes, field_range, among_inputs, among_outputs, among_witnesses, in_opening, unwitnessed, input_numbers, in_input, inputs_numbers, behind_inputs, output_numbers, in_output, outputs_numbers, behind_outputs, witness_numbers, input_witness_numbers, in_input_witness, stack_numbers, in_stack, output_witness_numbers, in_output_witness, ended_range, whole_fits, whole_range, nears, fars, least_places, greatest_places, refused_range, placed_fits, in_range};
-ghost use Rattle.decoders.specs.Needs.{Sized, Ending, Endable};
+ghost use Rattle.decoders.specs.Range.{shape_fits, field_range, among_inputs, among_outputs, among_witnesses, in_opening, unwitnessed, input_numbers, in_input, inputs_numbers, behind_inputs, output_numbers, in_output, outputs_numbers, behind_outputs, witness_numbers, input_witness_numbers, in_input_witness, stack_numbers, in_stack, output_witness_numbers, in_output_witness, ended_range, whole_fits, whole_range, refused_range, placed_fits, in_range};
+ghost use Rattle.decoders.specs.Needs.{Sized, Endable, Numbered};
 
-use crate::{TransactionDecoder, stages, state};
-
-const GREATEST_U32: usize = 4_294_967_295;
-
-// What a stage reads: a number of 4 bytes or of 1, 32 bytes that are never looked at, a count, a length and body, a value, an asset or nonce.
-const NUMBER: usize = 0;
-
-const BYTE: usize = 1;
-
-const HIDDEN: usize = 2;
-
-const COUNT: usize = 3;
-
-const BODY: usize = 4;
-
-const AMOUNT: usize = 5;
-
-const TOKEN: usize = 6;
-
-// The bytes of a count or length.
-fn size(n: usize) -> usize
-    ensures { Sized 9 result (size n) }
-{
-    if n <= 252 {
-        return 1;
-    }
-    if n <= 65_535 {
-        return 3;
-    }
-    if n <= GREATEST_U32 { 5 } else { 9 }
-}
-
-// ---- by kind, and form
-
-pub(crate) fn least_form(kind: usize) -> usize
-    ensures { result ≡ get_or least_forms kind 0 }
-{
-    match kind {
-        0 => 3,
-        1 => 3,
-        2 => 2,
-        3 => 0,
-        4 => 0,
-        5 => 2,
-        6 => 2,
-        _ => 0,
-    }
-}
-
-pub(crate) fn greatest_form(kind: usize) -> usize
-    ensures { result ≡ get_or greatest_forms kind 0 }
-{
-    match kind {
-        0 => 3,
-        1 => 3,
-        2 => 2,
-        3 => 1,
-        4 => 2,
-        5 => 4,
-        6 => 3,
-        _ => 0,
-    }
-}
-
-pub(crate) fn least_width(kind: usize, form: usize) -> usize
-    ensures { result ≡ least_width kind form }
-{
-    if form == stages::FURTHER {
-        return 2;
-    }
-    if form == stages::FIRST {
-        return 1;
-    }
-    if form == stages::OPAQUE {
-        if kind == 4 {
-            return 1;
-        }
-        return 32;
-    }
-    if form == stages::LITTLE {
-        if kind == 0 {
-            return 4;
-        }
-        return 1;
-    }
-    8
-}
-
-pub(crate) fn greatest_width(kind: usize, form: usize) -> usize
-    ensures { result ≡ greatest_width kind form }
-{
-    if form == stages::FURTHER {
-        return 8;
-    }
-    if form == stages::FIRST {
-        return 1;
-    }
-    if form == stages::OPAQUE {
-        if kind == 4 {
-            return TransactionDecoder::LIMIT;
-        }
-        return 32;
-    }
-    if form == stages::LITTLE {
-        if kind == 0 {
-            return 4;
-        }
-        return 1;
-    }
-    8
-}
-
-// 256 to the power of have, at most that of 7.
-fn power(have: usize) -> usize
-    ensures { result ≡ 256 ^ min have 7 }
-{
-    match have {
-        0 => 1,
-        1 => 256,
-        2 => 65_536,
-        3 => 16_777_216,
-        4 => 4_294_967_296,
-        5 => 1_099_511_627_776,
-        6 => 281_474_976_710_656,
-        _ => 72_057_594_037_927_936,
-    }
-}
-
-// The bytes of the field itself that were read before its present part.
-fn own_bytes(kind: usize, form: usize, width: usize) -> usize
-    ensures { Sized 9 result (own_bytes kind form width) }
-{
-    if (form == stages::FIRST) | (form == stages::LITTLE) | (kind == 2) {
-        return 0;
-    }
-    if (form == stages::OPAQUE) & (kind == 4) {
-        size(width)
-    } else {
-        1
-    }
-}
+use crate::row::{GREATEST_U32, Kind, Places, Row, size};
+use crate::{Counts, Spot, TransactionDecoder, feed, stages};
+use encode::RefusalKind;
 
 // The greatest value of spot.empty with a field of this form.
 fn dark(form: usize) -> usize
@@ -155,175 +17,62 @@ fn dark(form: usize) -> usize
     if form == stages::OPAQUE { 0 } else { 1 }
 }
 
-// One of two answers.
-fn either(test: bool, a: bool, b: bool) -> bool
-    ensures { result ≡ cond test a b }
-{
-    if test {
-        return a;
-    }
-    b
-}
-
-// ---- by a refusal's number: how far its place lies before the bytes taken, at least and at most; the least and the greatest place
-
-fn near(number: usize) -> usize
-    ensures { Sized 4000000 result (get_or nears number 0) }
-{
-    match number {
-        0 => 0,
-        1 => 0,
-        2 => 0,
-        3 => 3,
-        4 => 1,
-        5 => 1,
-        6 => 66,
-        7 => 7,
-        8 => 7,
-        _ => 0,
-    }
-}
-
-fn far(number: usize) -> usize
-    ensures { Sized 4000000 result (get_or fars number 0) }
-{
-    match number {
-        0 => 0,
-        1 => 0,
-        2 => 9,
-        3 => 9,
-        4 => 9,
-        5 => 1,
-        6 => 66,
-        7 => TransactionDecoder::LIMIT,
-        8 => TransactionDecoder::LIMIT,
-        _ => 0,
-    }
-}
-
-fn least_place(number: usize) -> usize
-    ensures { Sized 4000000 result (get_or least_places number 0) }
-{
-    match number {
-        0 => 0,
-        1 => 0,
-        2 => 10,
-        3 => 5,
-        4 => 5,
-        5 => 7,
-        6 => 47,
-        7 => 4,
-        8 => 4,
-        _ => 0,
-    }
-}
-
-fn greatest_place(number: usize) -> usize
-    ensures { Sized 4000000 result (get_or greatest_places number 0) }
-{
-    match number {
-        0 => 0,
-        1 => 3999999,
-        2 => TransactionDecoder::LIMIT,
-        3 => TransactionDecoder::LIMIT,
-        4 => TransactionDecoder::LIMIT,
-        5 => TransactionDecoder::LIMIT,
-        6 => TransactionDecoder::LIMIT,
-        7 => 4,
-        8 => 4,
-        _ => 0,
-    }
-}
-
-// ---- tests on numbers; no sum or product in them can wrap
-
-// A finished reading: with flag 1 there are witnesses, and not all are empty; with flag 0 there are no items.
-fn whole_fits(flag: usize, inputs: usize, outputs: usize, items: usize, taken: usize) -> bool
-    requires { Ending inputs outputs items taken }
-    ensures { result ≡ whole_fits flag inputs outputs items taken }
-{
-    let plain = 9 + size(inputs) + size(outputs) + 41 * inputs + 4 * outputs;
-    let full = plain + 4 * inputs + 2 * outputs;
-    let witnessed = (full + items <= taken)
-        & (full + 1 <= taken)
-        & (items <= TransactionDecoder::LIMIT * inputs)
-        & (1 <= inputs + outputs);
-    let rest = either(flag == 1, witnessed, items == 0);
-    (plain <= taken) & (taken <= plain + TransactionDecoder::LIMIT * (inputs + outputs)) & rest
-}
-
-// A refusal's place, by its number.
-fn placed_fits(number: usize, place: usize, taken: usize) -> bool
-    requires { place ≤ limit }
-    ensures { result ≡ placed_fits number place taken }
-{
-    let near = near(number);
-    let far = far(number);
-    let least = least_place(number);
-    let greatest = greatest_place(number);
-    (place + near <= taken) & (taken <= place + far) & (least <= place) & (place <= greatest)
-}
-
 impl TransactionDecoder {
+    // A field's form and width are of what the stage reads. Further bytes are 2, 4 or 8.
+    fn shape_fits(self, kind: Kind) -> bool
+        ensures { result ≡ shape_fits kind self }
+    {
+        let form = self.field.form;
+        let width = self.field.width;
+        kind.forms().contains(&form)
+            && kind.widths(form).contains(&width)
+            && (form != stages::FURTHER || matches!(width, 2 | 4 | 8))
+    }
+
     // The field that is open: some of its bytes, not all, are there.
-    pub(crate) fn field_range(self, kind: usize) -> bool
+    #[tactic(auto, using(crate::proofs::Ranges::number_short), unfolding(crate::specs::Range::field_range))]
+    pub(crate) fn field_range(self, kind: Kind) -> bool
         ensures { result ≡ field_range kind self }
     {
-        if self.field.form < least_form(kind) {
-            return false;
-        }
-        if greatest_form(kind) < self.field.form {
-            return false;
-        }
-        if self.field.width < least_width(kind, self.field.form) {
-            return false;
-        }
-        if greatest_width(kind, self.field.form) < self.field.width {
-            return false;
-        }
-        let width = self.field.width;
-        let doubled = (width == 2) | (width == 4) | (width == 8);
-        if !either(self.field.form == stages::FURTHER, doubled, true) {
-            return false;
-        }
-        if self.field.width <= self.field.have {
-            return false;
-        }
-        if self.field.form == stages::OPAQUE {
-            return self.field.value == 0;
-        }
-        self.field.value < power(self.field.have)
+        let value = self.field.value;
+        self.shape_fits(kind)
+            && self.field.have < self.field.width
+            && if self.field.form == stages::OPAQUE {
+                value == 0
+            } else {
+                value < feed::power(self.field.have)
+            }
     }
 
     // ---- where the field lies
 
     // The bytes of the open field that were read before its present part.
-    fn own(self, kind: usize) -> usize
+    fn own(self, kind: Kind) -> usize
         ensures { Sized 9 result (range.own kind self) }
     {
-        own_bytes(kind, self.field.form, self.field.width)
+        kind.own_bytes(self.field.form, self.field.width)
     }
 
     // Behind so many bytes of other fields at least, and within the limit.
-    fn lies(self, kind: usize, least: usize) -> bool
+    fn lies(self, kind: Kind, least: usize) -> bool
         requires { least ≤ 8000000000 }
         ensures { result ≡ range.lies kind least self }
     {
-        let start = state::minus(self.taken, self.field.have);
-        let last = state::minus(TransactionDecoder::LIMIT, self.field.width);
+        let start = self.taken.saturating_sub(self.field.have);
+        let last = TransactionDecoder::LIMIT.saturating_sub(self.field.width);
         let own = self.own(kind);
         (self.field.have <= self.taken) & (least + own <= start) & (start <= last)
     }
 
     // And behind no more than so many where nothing of free length was read.
-    fn exact(self, kind: usize, least: usize, slack: usize, free: usize) -> bool
-        requires least_bound { least ≤ 400000000 }
-        requires slack_bound { slack ≤ 96 }
-        requires free_bound { free ≤ 8000001 }
+    #[tactic(auto, unfolding(crate::specs::Range::exact))]
+    fn exact(self, kind: Kind, least: usize, slack: usize, free: usize) -> bool
+        requires { least + slack + limit * free ≤ 40000000000000 }
         ensures { result ≡ range.exact kind least slack free self }
     {
-        let start = state::minus(self.taken, self.field.have);
-        let last = state::minus(TransactionDecoder::LIMIT, self.field.width);
+        // written out: tried as `lies` and a test more, a call of `push_bytes` takes 60 instructions more of 561, and with hints on inlining 14
+        let start = self.taken.saturating_sub(self.field.have);
+        let last = TransactionDecoder::LIMIT.saturating_sub(self.field.width);
         let low = least + self.own(kind);
         (self.field.have <= self.taken)
             & (low <= start)
@@ -331,33 +80,33 @@ impl TransactionDecoder {
             & (start <= low + slack + TransactionDecoder::LIMIT * free)
     }
 
-    fn among_inputs(self, kind: usize, before: usize, scripts: usize) -> bool
-        requires before_bound { before ≤ 119 }
+    #[tactic(auto, unfolding(crate::specs::Range::among_inputs))]
+    fn among_inputs(self, row: Row, scripts: usize) -> bool
         requires scripts_bound { scripts ≤ 1 }
         requires index_le_limit { self.spot.index ≤ limit }
         requires null_bound { self.spot.null ≤ 1 }
-        ensures { result ≡ among_inputs kind before scripts self }
+        ensures { result ≡ among_inputs row.kind row.before scripts self }
     {
-        let single = state::minus(before, 8 * self.spot.null);
+        let single = row.before.saturating_sub(8 * self.spot.null);
         let count = size(self.counts.inputs);
         self.exact(
-            kind,
+            row.kind,
             single + count + 41 * self.spot.index,
             0,
             self.spot.index + scripts,
         )
     }
 
-    fn among_outputs(self, kind: usize, before: usize, slack: usize) -> bool
-        requires before_bound { before ≤ 119 }
+    #[tactic(auto, unfolding(crate::specs::Range::among_outputs))]
+    fn among_outputs(self, row: Row, slack: usize) -> bool
         requires slack_bound { slack ≤ 96 }
         requires inputs_le_limit { self.counts.inputs ≤ limit }
         requires index_le_limit { self.spot.index ≤ limit }
-        ensures { result ≡ among_outputs kind before slack self }
+        ensures { result ≡ among_outputs row.kind row.before slack self }
     {
         let counts = size(self.counts.inputs) + size(self.counts.outputs);
-        let least = before + counts + 41 * self.counts.inputs + 4 * self.spot.index;
-        self.exact(kind, least, slack, self.counts.inputs + self.spot.index)
+        let least = row.before + counts + 41 * self.counts.inputs + 4 * self.spot.index;
+        self.exact(row.kind, least, slack, self.counts.inputs + self.spot.index)
     }
 
     // What all inputs and outputs have with their counts.
@@ -371,7 +120,8 @@ impl TransactionDecoder {
         inputs + outputs + 41 * self.counts.inputs + 4 * self.counts.outputs
     }
 
-    fn among_witnesses(self, kind: usize, least: usize, stacks: usize, seen: usize) -> bool
+    #[tactic(auto, unfolding(crate::specs::Range::among_witnesses))]
+    fn among_witnesses(self, kind: Kind, least: usize, stacks: usize, seen: usize) -> bool
         requires least_bound { least ≤ 400000000 }
         requires stacks_bound { stacks ≤ 4000001 }
         requires seen_bound { seen ≤ 8000001 }
@@ -379,11 +129,11 @@ impl TransactionDecoder {
         requires empty_bound { self.spot.empty ≤ 1 }
         ensures { result ≡ among_witnesses kind least stacks seen self }
     {
-        let start = state::minus(self.taken, self.field.have);
-        let last = state::minus(TransactionDecoder::LIMIT, self.field.width);
+        let start = self.taken.saturating_sub(self.field.have);
+        let last = TransactionDecoder::LIMIT.saturating_sub(self.field.width);
         let low = least + self.own(kind);
         let dark = dark(self.field.form);
-        let light = state::minus(dark, self.spot.empty);
+        let light = dark.saturating_sub(self.spot.empty);
         (self.field.have <= self.taken)
             & (low + self.counts.items <= start)
             & (start <= last)
@@ -398,12 +148,12 @@ impl TransactionDecoder {
     // ---- the rows
 
     // Stages 0 to 2: nothing of free length was read, so the bytes taken are known.
-    fn in_opening(self, kind: usize, before: usize, version: usize, flag: usize) -> bool
-        requires { before ≤ 119 }
-        ensures { result ≡ in_opening kind before version flag self }
+    #[tactic(auto, unfolding(crate::specs::Range::in_opening))]
+    fn in_opening(self, row: Row, version: usize, flag: usize) -> bool
+        ensures { result ≡ in_opening row.kind row.before version flag self }
     {
-        let open = self.field_range(kind);
-        let exact = self.exact(kind, before, 0, 0);
+        let open = self.field_range(row.kind);
+        let exact = self.exact(row.kind, row.before, 0, 0);
         open & exact
             & (self.counts.version <= version)
             & (self.counts.flag <= flag)
@@ -411,14 +161,11 @@ impl TransactionDecoder {
             & (self.counts.outputs == 0)
             & (self.counts.items == 0)
             & (self.counts.locktime == 0)
-            & (self.spot.index == 0)
-            & (self.spot.left == 0)
-            & (self.spot.issuance == 0)
-            & (self.spot.null == 0)
-            & (self.spot.empty == 0)
+            & (self.spot == Spot::default())
     }
 
     // Stages 3 to 16: there are no witnesses yet.
+    #[tactic(auto, unfolding(crate::specs::Range::unwitnessed))]
     fn unwitnessed(self) -> bool
         ensures { result ≡ unwitnessed self }
     {
@@ -432,8 +179,9 @@ impl TransactionDecoder {
             & (self.spot.empty == 0)
     }
 
-    // Stages 3 to 10: a field of an input.
-    fn input_numbers(self, kind: usize, least: usize, greatest: usize, null: usize) -> bool
+    // Stages 3 to 10: a field of an input. By least and greatest: a range of std wants a clause more of each caller, that it isn't exhausted.
+    #[tactic(auto, unfolding(crate::specs::Range::input_numbers))]
+    fn input_numbers(self, kind: Kind, least: usize, greatest: usize, null: usize) -> bool
         ensures { result ≡ input_numbers kind least greatest null self }
     {
         let open = self.field_range(kind);
@@ -446,28 +194,18 @@ impl TransactionDecoder {
             & (self.spot.null <= null)
     }
 
-    fn in_input(
-        self,
-        kind: usize,
-        before: usize,
-        least: usize,
-        greatest: usize,
-        null: usize,
-        scripts: usize,
-    ) -> bool
-        requires before_bound { before ≤ 119 }
+    #[tactic(auto, using(crate::proofs::Ranges::input_few), unfolding(crate::specs::Range::in_input))]
+    fn in_input(self, row: Row, least: usize, greatest: usize, null: usize, scripts: usize) -> bool
         requires null_bound { null ≤ 1 }
         requires scripts_bound { scripts ≤ 1 }
-        ensures { result ≡ in_input kind before least greatest null scripts self }
+        ensures { result ≡ in_input row.kind row.before least greatest null scripts self }
     {
-        if !self.input_numbers(kind, least, greatest, null) {
-            return false;
-        }
-        self.among_inputs(kind, before, scripts)
+        self.input_numbers(row.kind, least, greatest, null) && self.among_inputs(row, scripts)
     }
 
     // Stage 11.
-    fn inputs_numbers(self, kind: usize) -> bool
+    #[tactic(auto, unfolding(crate::specs::Range::inputs_numbers))]
+    fn inputs_numbers(self, kind: Kind) -> bool
         ensures { result ≡ inputs_numbers kind self }
     {
         let open = self.field_range(kind);
@@ -479,18 +217,16 @@ impl TransactionDecoder {
             & (self.spot.null == 0)
     }
 
-    fn behind_inputs(self, kind: usize, before: usize) -> bool
-        requires { before ≤ 119 }
-        ensures { result ≡ behind_inputs kind before self }
+    #[tactic(auto, using(crate::proofs::Ranges::inputs_few), unfolding(crate::specs::Range::behind_inputs))]
+    fn behind_inputs(self, row: Row) -> bool
+        ensures { result ≡ behind_inputs row.kind row.before self }
     {
-        if !self.inputs_numbers(kind) {
-            return false;
-        }
-        self.among_inputs(kind, before, 0)
+        self.inputs_numbers(row.kind) && self.among_inputs(row, 0)
     }
 
     // Stages 12 to 15: a field of an output.
-    fn output_numbers(self, kind: usize) -> bool
+    #[tactic(auto, unfolding(crate::specs::Range::output_numbers))]
+    fn output_numbers(self, kind: Kind) -> bool
         ensures { result ≡ output_numbers kind self }
     {
         let open = self.field_range(kind);
@@ -503,19 +239,17 @@ impl TransactionDecoder {
             & (self.spot.null == 0)
     }
 
-    fn in_output(self, kind: usize, before: usize, slack: usize) -> bool
-        requires before_bound { before ≤ 119 }
-        requires slack_bound { slack ≤ 96 }
-        ensures { result ≡ in_output kind before slack self }
+    #[tactic(auto, using(crate::proofs::Ranges::output_few), unfolding(crate::specs::Range::in_output))]
+    fn in_output(self, row: Row, slack: usize) -> bool
+        requires { slack ≤ 96 }
+        ensures { result ≡ in_output row.kind row.before slack self }
     {
-        if !self.output_numbers(kind) {
-            return false;
-        }
-        self.among_outputs(kind, before, slack)
+        self.output_numbers(row.kind) && self.among_outputs(row, slack)
     }
 
     // Stage 16.
-    fn outputs_numbers(self, kind: usize) -> bool
+    #[tactic(auto, unfolding(crate::specs::Range::outputs_numbers))]
+    fn outputs_numbers(self, kind: Kind) -> bool
         ensures { result ≡ outputs_numbers kind self }
     {
         let open = self.field_range(kind);
@@ -528,18 +262,16 @@ impl TransactionDecoder {
             & (self.spot.null == 0)
     }
 
-    fn behind_outputs(self, kind: usize, before: usize) -> bool
-        requires { before ≤ 119 }
-        ensures { result ≡ behind_outputs kind before self }
+    #[tactic(auto, using(crate::proofs::Ranges::outputs_few), unfolding(crate::specs::Range::behind_outputs))]
+    fn behind_outputs(self, row: Row) -> bool
+        ensures { result ≡ behind_outputs row.kind row.before self }
     {
-        if !self.outputs_numbers(kind) {
-            return false;
-        }
-        self.among_outputs(kind, before, 0)
+        self.outputs_numbers(row.kind) && self.among_outputs(row, 0)
     }
 
     // Stages 17 to 24: the witnesses.
-    fn witness_numbers(self, kind: usize) -> bool
+    #[tactic(auto, unfolding(crate::specs::Range::witness_numbers))]
+    fn witness_numbers(self, kind: Kind) -> bool
         ensures { result ≡ witness_numbers kind self }
     {
         let open = self.field_range(kind);
@@ -557,34 +289,37 @@ impl TransactionDecoder {
             & (self.spot.empty <= 1)
     }
 
-    // Stages 17 to 19, and 21: a field of an input's witness.
-    fn input_witness_numbers(self, kind: usize) -> bool
+    // Stages 17 to 19, and 21: a field of an input's witness. Beside output_witness_numbers: each is a definition of specs/Range, by its name.
+    #[tactic(auto, unfolding(crate::specs::Range::input_witness_numbers))]
+    fn input_witness_numbers(self, kind: Kind) -> bool
         ensures { result ≡ input_witness_numbers kind self }
     {
         let numbers = self.witness_numbers(kind);
         numbers & (self.spot.index < self.counts.inputs) & (self.spot.left == 0)
     }
 
-    fn in_input_witness(self, kind: usize, before: usize, stacks: usize, seen: usize) -> bool
-        requires before_bound { before ≤ 119 }
+    #[tactic(auto, using(crate::proofs::Ranges::input_witness_few), unfolding(crate::specs::Range::in_input_witness))]
+    fn in_input_witness(self, row: Row, stacks: usize, seen: usize) -> bool
         requires stacks_bound { stacks ≤ 1 }
         requires seen_bound { seen ≤ 1 }
-        ensures { result ≡ in_input_witness kind before stacks seen self }
+        ensures { result ≡ in_input_witness row.kind row.before stacks seen self }
     {
-        if !self.input_witness_numbers(kind) {
-            return false;
-        }
         let index = self.spot.index;
-        let body = self.body();
-        let least = before + body + 4 * index;
-        self.among_witnesses(kind, least, index + stacks, index + seen)
+        self.input_witness_numbers(row.kind)
+            && self.among_witnesses(
+                row.kind,
+                row.before + self.body() + 4 * index,
+                index + stacks,
+                index + seen,
+            )
     }
 
     // Stages 20 and 22: an item.
-    fn stack_numbers(self, kind: usize) -> bool
+    #[tactic(auto, unfolding(crate::specs::Range::stack_numbers))]
+    fn stack_numbers(self, kind: Kind) -> bool
         ensures { result ≡ stack_numbers kind self }
     {
-        let room = state::minus(self.item_room(), self.counts.items);
+        let room = self.item_room().saturating_sub(self.counts.items);
         let numbers = self.witness_numbers(kind);
         numbers
             & (self.spot.index < self.counts.inputs)
@@ -593,45 +328,48 @@ impl TransactionDecoder {
             & (self.spot.empty == 0)
     }
 
-    fn in_stack(self, kind: usize, before: usize) -> bool
-        requires { before ≤ 119 }
-        ensures { result ≡ in_stack kind before self }
+    #[tactic(auto, using(crate::proofs::Ranges::stack_few), unfolding(crate::specs::Range::in_stack))]
+    fn in_stack(self, row: Row) -> bool
+        ensures { result ≡ in_stack row.kind row.before self }
     {
-        if !self.stack_numbers(kind) {
-            return false;
-        }
-        let count = size(self.spot.left);
-        let body = self.body();
-        self.lies(
-            kind,
-            before + body + count + 4 * self.spot.index + self.counts.items,
-        )
+        self.stack_numbers(row.kind)
+            && self.lies(
+                row.kind,
+                row.before
+                    + self.body()
+                    + size(self.spot.left)
+                    + 4 * self.spot.index
+                    + self.counts.items,
+            )
     }
 
     // Stages 23 and 24: a field of an output's witness.
-    fn output_witness_numbers(self, kind: usize) -> bool
+    #[tactic(auto, unfolding(crate::specs::Range::output_witness_numbers))]
+    fn output_witness_numbers(self, kind: Kind) -> bool
         ensures { result ≡ output_witness_numbers kind self }
     {
         let numbers = self.witness_numbers(kind);
         numbers & (self.spot.index < self.counts.outputs) & (self.spot.left == 0)
     }
 
-    fn in_output_witness(self, kind: usize, before: usize, seen: usize) -> bool
-        requires before_bound { before ≤ 119 }
-        requires seen_bound { seen ≤ 1 }
-        ensures { result ≡ in_output_witness kind before seen self }
+    #[tactic(auto, using(crate::proofs::Ranges::output_witness_few), unfolding(crate::specs::Range::in_output_witness))]
+    fn in_output_witness(self, row: Row, seen: usize) -> bool
+        requires { seen ≤ 1 }
+        ensures { result ≡ in_output_witness row.kind row.before seen self }
     {
-        if !self.output_witness_numbers(kind) {
-            return false;
-        }
         let inputs = self.counts.inputs;
         let index = self.spot.index;
-        let body = self.body();
-        let least = before + body + 4 * inputs + 2 * index;
-        self.among_witnesses(kind, least, inputs, inputs + index + seen)
+        self.output_witness_numbers(row.kind)
+            && self.among_witnesses(
+                row.kind,
+                row.before + self.body() + 4 * inputs + 2 * index,
+                inputs,
+                inputs + index + seen,
+            )
     }
 
     // Stage 25: finished.
+    #[tactic(auto, unfolding(crate::specs::Range::ended_range))]
     pub(crate) fn ended_range(self) -> bool
         ensures { result ≡ ended_range self }
     {
@@ -648,29 +386,45 @@ impl TransactionDecoder {
             & (self.counts.outputs <= TransactionDecoder::LIMIT)
             & (self.counts.items <= TransactionDecoder::LIMIT)
             & (self.counts.locktime <= GREATEST_U32)
-            & (self.spot.index == 0)
-            & (self.spot.left == 0)
-            & (self.spot.issuance == 0)
-            & (self.spot.null == 0)
-            & (self.spot.empty == 0)
+            & (self.spot == Spot::default())
     }
 
+    // With flag 1 there are witnesses, and not all are empty; with flag 0 there are no items.
+    #[tactic(auto, unfolding(crate::specs::Range::whole_fits))]
+    fn whole_fits(self) -> bool
+        requires { Endable self }
+        ensures { result ≡ whole_fits self.counts.flag self.counts.inputs self.counts.outputs self.counts.items self.taken }
+    {
+        let inputs = self.counts.inputs;
+        let outputs = self.counts.outputs;
+        let items = self.counts.items;
+        let plain = 9 + size(inputs) + size(outputs) + 41 * inputs + 4 * outputs;
+        let rest = if self.counts.flag == 1 {
+            let full = plain + 4 * inputs + 2 * outputs;
+            (full + items <= self.taken)
+                & (full + 1 <= self.taken)
+                & (items <= TransactionDecoder::LIMIT * inputs)
+                & (1 <= inputs + outputs)
+        } else {
+            items == 0
+        };
+        (plain <= self.taken)
+            & (self.taken <= plain + TransactionDecoder::LIMIT * (inputs + outputs))
+            & rest
+    }
+
+    #[tactic(auto, unfolding(crate::specs::Range::whole_range))]
     pub(crate) fn whole_range(self) -> bool
         requires { Endable self }
         ensures { result ≡ whole_range self }
     {
         let room = self.item_room();
-        let fits = whole_fits(
-            self.counts.flag,
-            self.counts.inputs,
-            self.counts.outputs,
-            self.counts.items,
-            self.taken,
-        );
+        let fits = self.whole_fits();
         (self.counts.items <= room) & fits
     }
 
-    // Stage 26: refused, value the number and have the place.
+    // Stage 26: refused, value the number and have the place. By numbers: of the kinds, 9 to 14 never stand in a state, and Numbered asks for 1 to 8.
+    #[tactic(auto, unfolding(crate::specs::Range::refused_range))]
     pub(crate) fn refused_range(self) -> bool
         ensures { result ≡ refused_range self }
     {
@@ -680,70 +434,73 @@ impl TransactionDecoder {
             & (self.field.have <= self.taken)
             & (1 <= self.field.value)
             & (self.field.value <= 8)
-            & (self.counts.version == 0)
-            & (self.counts.flag == 0)
-            & (self.counts.inputs == 0)
-            & (self.counts.outputs == 0)
-            & (self.counts.items == 0)
-            & (self.counts.locktime == 0)
-            & (self.spot.index == 0)
-            & (self.spot.left == 0)
-            & (self.spot.issuance == 0)
-            & (self.spot.null == 0)
-            & (self.spot.empty == 0)
+            & (self.counts == Counts::default())
+            & (self.spot == Spot::default())
     }
 
+    // The place, by the refusal's kind.
+    #[tactic(auto, using(crate::proofs::Ranges::some_kind), unfolding(crate::specs::Range::placed_fits))]
+    fn placed_fits(self) -> bool
+        requires { Numbered self }
+        ensures { result ≡ placed_fits self.field.value self.field.have self.taken }
+    {
+        let place = self.field.have;
+        match RefusalKind::try_from(self.field.value) {
+            Ok(kind) => {
+                let places = Places::of(kind);
+                places.behind.contains(&(self.taken - place)) & places.at.contains(&place)
+            }
+            Err(_) => false,
+        }
+    }
+
+    #[tactic(auto, using(crate::proofs::Ranges::ended_endable))]
     fn finished_range(self) -> bool
         ensures { result ≡ (ended_range self && whole_range self) }
     {
-        if !self.ended_range() {
-            return false;
-        }
-        self.whole_range()
+        self.ended_range() && self.whole_range()
     }
 
+    #[tactic(auto, using(crate::proofs::Ranges::refused_numbered))]
     fn refusal_range(self) -> bool
         ensures { result ≡ (refused_range self && placed_fits self.field.value self.field.have self.taken) }
     {
-        if !self.refused_range() {
-            return false;
-        }
-        placed_fits(self.field.value, self.field.have, self.taken)
+        self.refused_range() && self.placed_fits()
     }
 
     // ---- one row a stage
 
     // Whether the state is within its range.
+    #[tactic(auto, unfolding(crate::specs::Range::in_range))]
     pub(crate) fn in_range(self) -> bool
         ensures { result ≡ in_range self }
     {
-        let stage = self.field.stage;
-        match stage {
-            stages::VERSION => self.in_opening(NUMBER, 0, 0, 0),
-            stages::FLAG => self.in_opening(BYTE, 4, GREATEST_U32, 0),
-            stages::INPUT_COUNT => self.in_opening(COUNT, 5, GREATEST_U32, 255),
-            stages::TXID => self.in_input(HIDDEN, 5, 0, 0, 0, 0),
-            stages::VOUT => self.in_input(NUMBER, 37, 0, 0, 0, 0),
-            stages::INPUT_SCRIPT => self.in_input(BODY, 41, 0, 1, 0, 0),
-            stages::SEQUENCE => self.in_input(NUMBER, 42, 0, 1, 0, 1),
-            stages::BLINDING_NONCE => self.in_input(HIDDEN, 46, 1, 1, 0, 1),
-            stages::ENTROPY => self.in_input(HIDDEN, 78, 1, 1, 0, 1),
-            stages::ISSUANCE_AMOUNT => self.in_input(AMOUNT, 110, 1, 1, 0, 1),
-            stages::INFLATION_KEYS => self.in_input(AMOUNT, 119, 1, 1, 1, 1),
-            stages::OUTPUT_COUNT => self.behind_inputs(COUNT, 5),
-            stages::ASSET => self.in_output(TOKEN, 5, 0),
-            stages::VALUE => self.in_output(AMOUNT, 6, 32),
-            stages::NONCE => self.in_output(TOKEN, 7, 64),
-            stages::OUTPUT_SCRIPT => self.in_output(BODY, 8, 96),
-            stages::LOCKTIME => self.behind_outputs(NUMBER, 5),
-            stages::AMOUNT_PROOF => self.in_input_witness(BODY, 9, 0, 0),
-            stages::KEYS_PROOF => self.in_input_witness(BODY, 10, 0, 1),
-            stages::SCRIPT_COUNT => self.in_input_witness(COUNT, 11, 0, 1),
-            stages::SCRIPT_ITEM => self.in_stack(BODY, 11),
-            stages::PEGIN_COUNT => self.in_input_witness(COUNT, 12, 1, 1),
-            stages::PEGIN_ITEM => self.in_stack(BODY, 12),
-            stages::SURJECTION_PROOF => self.in_output_witness(BODY, 9, 0),
-            stages::RANGE_PROOF => self.in_output_witness(BODY, 10, 1),
+        match self.field.stage {
+            stages::VERSION => self.in_opening(Row::of(Kind::Number, 0), 0, 0),
+            stages::FLAG => self.in_opening(Row::of(Kind::Byte, 4), GREATEST_U32, 0),
+            stages::INPUT_COUNT => self.in_opening(Row::of(Kind::Count, 5), GREATEST_U32, 255),
+            stages::TXID => self.in_input(Row::of(Kind::Hidden, 5), 0, 0, 0, 0),
+            stages::VOUT => self.in_input(Row::of(Kind::Number, 37), 0, 0, 0, 0),
+            stages::INPUT_SCRIPT => self.in_input(Row::of(Kind::Body, 41), 0, 1, 0, 0),
+            stages::SEQUENCE => self.in_input(Row::of(Kind::Number, 42), 0, 1, 0, 1),
+            stages::BLINDING_NONCE => self.in_input(Row::of(Kind::Hidden, 46), 1, 1, 0, 1),
+            stages::ENTROPY => self.in_input(Row::of(Kind::Hidden, 78), 1, 1, 0, 1),
+            stages::ISSUANCE_AMOUNT => self.in_input(Row::of(Kind::Amount, 110), 1, 1, 0, 1),
+            stages::INFLATION_KEYS => self.in_input(Row::of(Kind::Amount, 119), 1, 1, 1, 1),
+            stages::OUTPUT_COUNT => self.behind_inputs(Row::of(Kind::Count, 5)),
+            stages::ASSET => self.in_output(Row::of(Kind::Token, 5), 0),
+            stages::VALUE => self.in_output(Row::of(Kind::Amount, 6), 32),
+            stages::NONCE => self.in_output(Row::of(Kind::Token, 7), 64),
+            stages::OUTPUT_SCRIPT => self.in_output(Row::of(Kind::Body, 8), 96),
+            stages::LOCKTIME => self.behind_outputs(Row::of(Kind::Number, 5)),
+            stages::AMOUNT_PROOF => self.in_input_witness(Row::of(Kind::Body, 9), 0, 0),
+            stages::KEYS_PROOF => self.in_input_witness(Row::of(Kind::Body, 10), 0, 1),
+            stages::SCRIPT_COUNT => self.in_input_witness(Row::of(Kind::Count, 11), 0, 1),
+            stages::SCRIPT_ITEM => self.in_stack(Row::of(Kind::Body, 11)),
+            stages::PEGIN_COUNT => self.in_input_witness(Row::of(Kind::Count, 12), 1, 1),
+            stages::PEGIN_ITEM => self.in_stack(Row::of(Kind::Body, 12)),
+            stages::SURJECTION_PROOF => self.in_output_witness(Row::of(Kind::Body, 9), 0),
+            stages::RANGE_PROOF => self.in_output_witness(Row::of(Kind::Body, 10), 1),
             stages::FINISHED => self.finished_range(),
             stages::REFUSED => self.refusal_range(),
             _ => false,

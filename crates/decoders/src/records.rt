@@ -1,13 +1,13 @@
 // What follows a record, an item, a body.
-ghost use Rattle.std.specs.Prelude.{◌≡◌, ◌≤◌};
-ghost use Rattle.layout.specs.Transaction.{limit};
-ghost use Rattle.decoders.specs.Machine.{next_input, next_output, witnesses_end, next_output_witness, next_input_witness, next_script_item, next_pegin_item, further, further_input, item_ends, body_ends, Counted, Safe};
+ghost use Rattle.std.specs.Prelude.{◌≡◌};
+ghost use Rattle.decoders.specs.Machine.{next_input, next_output, witnesses_end, next_output_witness, next_input_witness, next_script_item, next_pegin_item, further, further_input, item_ends, body_ends, Counted};
 
-use crate::{TransactionDecoder, stages, state};
+use crate::settling::Settling;
+use crate::{TransactionDecoder, stages};
+use encode::RefusalKind;
 
 impl TransactionDecoder {
     pub(crate) fn next_input(self) -> TransactionDecoder
-        requires { self.taken ≤ limit }
         ensures { result ≡ next_input self }
     {
         if self.spot.index < self.counts.inputs {
@@ -18,7 +18,6 @@ impl TransactionDecoder {
     }
 
     pub(crate) fn next_output(self) -> TransactionDecoder
-        requires { self.taken ≤ limit }
         ensures { result ≡ next_output self }
     {
         if self.spot.index < self.counts.outputs {
@@ -33,14 +32,13 @@ impl TransactionDecoder {
         ensures { result ≡ witnesses_end self }
     {
         if self.spot.empty == 1 {
-            self.refuse(8, 4)
+            self.refuse(RefusalKind::EmptyWitnesses, 4)
         } else {
             self.finished()
         }
     }
 
     pub(crate) fn next_output_witness(self) -> TransactionDecoder
-        requires { self.taken ≤ limit }
         ensures { result ≡ next_output_witness self }
     {
         if self.spot.index < self.counts.outputs {
@@ -51,7 +49,6 @@ impl TransactionDecoder {
     }
 
     pub(crate) fn next_input_witness(mut self) -> TransactionDecoder
-        requires { self.taken ≤ limit }
         ensures { result ≡ next_input_witness self }
     {
         if self.spot.index < self.counts.inputs {
@@ -63,7 +60,6 @@ impl TransactionDecoder {
     }
 
     pub(crate) fn next_script_item(self) -> TransactionDecoder
-        requires { self.taken ≤ limit }
         ensures { result ≡ next_script_item self }
     {
         if 0 < self.spot.left {
@@ -80,77 +76,67 @@ impl TransactionDecoder {
         if 0 < self.spot.left {
             self.compact(stages::PEGIN_ITEM)
         } else {
-            let index = self.spot.index + 1;
-            self.spot.index = index;
+            self.spot.index += 1;
             self.next_input_witness()
         }
     }
+}
 
+impl Settling {
     // After an input: the next one, or the outputs. Nothing is kept of its issuance.
     pub(crate) fn input_ends(mut self) -> TransactionDecoder
-        requires { Safe self }
-        ensures { result ≡ next_input (further_input self) }
+        ensures { result ≡ next_input (further_input self.decoder) }
     {
-        let index = self.spot.index + 1;
-        self.spot.index = index;
-        self.spot.issuance = 0;
-        self.spot.null = 0;
-        self.next_input()
+        self.decoder.spot.index += 1;
+        self.decoder.spot.issuance = 0;
+        self.decoder.spot.null = 0;
+        self.decoder.next_input()
     }
 
+    // What ends in two ways is two functions: as one, `further` or `item_ends`, that hands the state back to go on with, it copies the state once
+    // more, and reading at once takes 13,501 instructions in place of 12,587.
     pub(crate) fn output_ends(mut self) -> TransactionDecoder
-        requires { Safe self }
-        ensures { result ≡ next_output (further self) }
+        ensures { result ≡ next_output (further self.decoder) }
     {
-        let index = self.spot.index + 1;
-        self.spot.index = index;
-        self.next_output()
+        self.decoder.spot.index += 1;
+        self.decoder.next_output()
     }
 
     pub(crate) fn output_witness_ends(mut self) -> TransactionDecoder
-        requires { Safe self }
-        ensures { result ≡ next_output_witness (further self) }
+        ensures { result ≡ next_output_witness (further self.decoder) }
     {
-        let index = self.spot.index + 1;
-        self.spot.index = index;
-        self.next_output_witness()
+        self.decoder.spot.index += 1;
+        self.decoder.next_output_witness()
     }
 
     pub(crate) fn script_item_ends(mut self) -> TransactionDecoder
-        requires { Safe self }
-        ensures { result ≡ next_script_item (item_ends self) }
+        ensures { result ≡ next_script_item (item_ends self.decoder) }
     {
-        let items = self.counts.items + 1;
-        let left = state::minus(self.spot.left, 1);
-        self.counts.items = items;
-        self.spot.left = left;
-        self.next_script_item()
+        self.decoder.counts.items += 1;
+        self.decoder.spot.left = self.decoder.spot.left.saturating_sub(1);
+        self.decoder.next_script_item()
     }
 
     pub(crate) fn pegin_item_ends(mut self) -> TransactionDecoder
-        requires { Safe self }
-        ensures { result ≡ next_pegin_item (item_ends self) }
+        ensures { result ≡ next_pegin_item (item_ends self.decoder) }
     {
-        let items = self.counts.items + 1;
-        let left = state::minus(self.spot.left, 1);
-        self.counts.items = items;
-        self.spot.left = left;
-        self.next_pegin_item()
+        self.decoder.counts.items += 1;
+        self.decoder.spot.left = self.decoder.spot.left.saturating_sub(1);
+        self.decoder.next_pegin_item()
     }
 
-    // By the body's stage.
+    // By the body's stage: see little_settled.
     pub(crate) fn body_ends(self, stage: usize) -> TransactionDecoder
-        requires { Safe self }
-        ensures { result ≡ body_ends stage self }
+        ensures { result ≡ body_ends stage self.decoder }
     {
         match stage {
-            stages::INPUT_SCRIPT => self.number(stages::SEQUENCE, 4),
+            stages::INPUT_SCRIPT => self.decoder.number(stages::SEQUENCE, 4),
             stages::OUTPUT_SCRIPT => self.output_ends(),
-            stages::AMOUNT_PROOF => self.compact(stages::KEYS_PROOF),
-            stages::KEYS_PROOF => self.compact(stages::SCRIPT_COUNT),
+            stages::AMOUNT_PROOF => self.decoder.compact(stages::KEYS_PROOF),
+            stages::KEYS_PROOF => self.decoder.compact(stages::SCRIPT_COUNT),
             stages::SCRIPT_ITEM => self.script_item_ends(),
             stages::PEGIN_ITEM => self.pegin_item_ends(),
-            stages::SURJECTION_PROOF => self.compact(stages::RANGE_PROOF),
+            stages::SURJECTION_PROOF => self.decoder.compact(stages::RANGE_PROOF),
             _ => self.output_witness_ends(),
         }
     }

@@ -1,4 +1,5 @@
-// The stages: what is read now, in the layout's order; then the two ends.
+// The stages: what is read now, in the layout's order; then the two ends. Numbers and no enum, as all of the state (and its 0 or 1 of
+// `issuance`, `null` and `empty`): it crosses the C interface as 20 numbers, and any caller can forge it.
 pub(crate) const VERSION: usize = 0;
 
 pub(crate) const FLAG: usize = 1;

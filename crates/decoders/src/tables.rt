@@ -1,62 +1,46 @@
-// The three lent tables: zeroing them, and entering numbers. They are never read back.
-ghost use Rattle.std.specs.Prelude.{◌≡◌, length, replicate};
-ghost use Rattle.decoders.specs.Machine.{stored, enter_by};
+// The three lent tables: zeroing them, and entering numbers. They are never read back. They go as three slices here too: of a struct that
+// holds them and is lent, no clause says that a callee leaves each slice in its field, so what the tables hold at a public function's return
+// would stay open (tried with zero_all).
+ghost use Rattle.std.specs.Prelude.{◌≡◌, length};
+ghost use Rattle.decoders.specs.Machine.{stored, enter};
 ghost use Rattle.decoders.specs.Feeding.{tables, cleared, sizes_of};
 ghost use Rattle.decoders.specs.Needs.{Storable, Enterable};
 
-use crate::Entered;
-
-pub(crate) fn zero(t: &mut [u32])
-    ensures { t.new ≡ replicate (length t.old) 0 }
-{
-    let mut i = 0;
-    while i < t.len() {
-        t[i] = 0;
-        i += 1;
-    }
-}
+use crate::{Entered, Table};
 
 pub(crate) fn zero_all(inputs: &mut [u32], outputs: &mut [u32], items: &mut [u32])
     ensures { tables inputs.new outputs.new items.new ≡ cleared (tables inputs.old outputs.old items.old) }
 {
-    zero(&mut inputs[..]);
-    zero(&mut outputs[..]);
-    zero(&mut items[..]);
+    inputs.fill(0);
+    outputs.fill(0);
+    items.fill(0);
 }
 
-pub(crate) fn store(t: &mut [u32], e: Entered)
+fn store(t: &mut [u32], e: Entered)
     requires { Storable e (length t.old) }
     ensures { t.new ≡ stored e t.old }
 {
-    let count = e.count;
-    let at = e.at;
-    let at2 = e.at2;
-    if count == 0 {
-        return;
+    t[e.at] = e.number as u32;
+    if let Some(n) = e.next {
+        t[e.at + 1] = n as u32;
     }
-    if count == 1 {
-        t[at] = e.number as u32;
-        return;
-    }
-    t[at] = e.number as u32;
-    t[at2] = e.number2 as u32;
 }
 
-pub(crate) fn enter(e: Entered, inputs: &mut [u32], outputs: &mut [u32], items: &mut [u32])
-    requires { Enterable e (sizes_of (tables inputs.old outputs.old items.old)) }
-    ensures { tables inputs.new outputs.new items.new ≡ enter_by e.table e (tables inputs.old outputs.old items.old) }
+pub(crate) fn enter(
+    entered: Option<Entered>,
+    inputs: &mut [u32],
+    outputs: &mut [u32],
+    items: &mut [u32],
+)
+    requires { Enterable entered (sizes_of (tables inputs.old outputs.old items.old)) }
+    ensures { tables inputs.new outputs.new items.new ≡ enter entered (tables inputs.old outputs.old items.old) }
 {
-    let table = e.table;
-    if table == 0 {
+    let Some(e) = entered else {
         return;
+    };
+    match e.table {
+        Table::Input => store(inputs, e),
+        Table::Output => store(outputs, e),
+        Table::Item => store(items, e),
     }
-    if table == 1 {
-        store(&mut inputs[..], e);
-        return;
-    }
-    if table == 2 {
-        store(&mut outputs[..], e);
-        return;
-    }
-    store(&mut items[..], e);
 }

@@ -2,66 +2,45 @@
 // has most of the loads, with their bytes laid out). Bytes that a reading never looks at are `e`.
 #![tactic(auto)]
 
-use decoders::{Answer, Fed, TransactionDecoder};
+use decoders::{Answer, Read, RefusalKind};
+use trial::{Reading, Tables};
 
-// Room for one record each: in one piece, byte by byte, and in uneven pieces.
-fn thrice(s: &[u8], step: usize) {
-    let mut i = [0u32; 20];
-    let mut o = [0u32; 14];
-    let mut n = [0u32; 2];
-    trial::whole(s, 0, &mut i, &mut o, &mut n);
-    trial::whole(s, 1, &mut i, &mut o, &mut n);
-    trial::whole(s, step, &mut i, &mut o, &mut n);
+// In one piece, byte by byte, and in uneven pieces.
+fn thrice<const I: usize, const O: usize, const N: usize>(
+    mut r: Reading<I, O, N>,
+    s: &[u8],
+    step: usize,
+) {
+    for size in [0, 1, step] {
+        r.whole(s, size);
+    }
 }
 
-// The same with room for 3 inputs, 4 outputs, 4 items.
-fn thrice_wide(s: &[u8], step: usize) {
-    let mut i = [0u32; 60];
-    let mut o = [0u32; 56];
-    let mut n = [0u32; 8];
-    trial::whole(s, 0, &mut i, &mut o, &mut n);
-    trial::whole(s, 1, &mut i, &mut o, &mut n);
-    trial::whole(s, step, &mut i, &mut o, &mut n);
+// In one piece, byte by byte, and in uneven pieces; after each, the sum of a table.
+fn many<F: FnMut(usize) -> u32>(step: usize, mut sum_of: F)
+    requires { F.IsAlwaysCallable sum_of }
+{
+    for size in [0, 1, step] {
+        let sum = sum_of(size);
+        trial::text(b"  sum ");
+        trial::number(sum as usize);
+        trial::text(b"\n");
+    }
 }
 
-fn summed(t: &[u32]) {
-    trial::text(b"  sum ");
-    trial::number(trial::wide(trial::sum(t)));
-    trial::text(b"\n");
-}
-
-// 256 input records: the answer, the last two records, and all numbers' sum.
-fn many(s: &[u8], step: usize) {
-    let mut i = [0u32; 5120];
-    let mut o = [0u32; 14];
-    let mut n = [0u32; 2];
-    let f = trial::read(s, step, &mut i, &mut o, &mut n);
-    let a = f.answer;
-    trial::line(a, f.taken, &i[5080..], &o, &n);
-    summed(&i);
-}
-
-// Version 2, flag 0, a count of 256 + low, and as many inputs, all 0; then no output and locktime 0.
+// Version 2, flag 0, a count of 256 + low, and as many inputs, all 0; then no output and locktime 0. This, `outputs` and `items` share `many`;
+// the rest is which bytes and which table, and a bound `FnMut` may not name the table's const parameters.
 fn inputs(low: u8) {
     let mut s = [0u8; 10550];
     s[0] = 2;
     s[5] = 0xfd;
     s[6] = low;
     s[7] = 1;
-    many(&s, 0);
-    many(&s, 1);
-    many(&s, 4001);
-}
-
-// 256 output records: the answer, the last two records, and all numbers' sum.
-fn many_outputs(s: &[u8], step: usize) {
-    let mut i = [0u32; 20];
-    let mut o = [0u32; 3584];
-    let mut n = [0u32; 2];
-    let f = trial::read(s, step, &mut i, &mut o, &mut n);
-    let a = f.answer;
-    trial::line(a, f.taken, &i, &o[3556..], &n);
-    summed(&o);
+    let mut r = Reading::<5120, 14, 2>::new();
+    many(4001, |size| {
+        r.whole(&s, size);
+        trial::sum(&r.tables.inputs)
+    });
 }
 
 // Version 2, flag 0, no input, a count of 256 + low, and as many outputs, all null; then locktime 0.
@@ -71,20 +50,11 @@ fn outputs(low: u8) {
     s[6] = 0xfd;
     s[7] = low;
     s[8] = 1;
-    many_outputs(&s, 0);
-    many_outputs(&s, 1);
-    many_outputs(&s, 401);
-}
-
-// 256 item records: the answer, the last two records, and all numbers' sum.
-fn many_items(s: &[u8], step: usize) {
-    let mut i = [0u32; 20];
-    let mut o = [0u32; 14];
-    let mut n = [0u32; 512];
-    let f = trial::read(s, step, &mut i, &mut o, &mut n);
-    let a = f.answer;
-    trial::line(a, f.taken, &i, &o, &n[508..]);
-    summed(&n);
+    let mut r = Reading::<20, 3584, 2>::new();
+    many(401, |size| {
+        r.whole(&s, size);
+        trial::sum(&r.tables.outputs)
+    });
 }
 
 // Version 2, flag 1, one input, no output; its script stack has 256 + low items, all empty, and its pegin stack so many. The 256 lengths start
@@ -98,28 +68,29 @@ fn items(low: u8, pegin: u8) {
     s[55] = low;
     s[56] = 1;
     s[313] = pegin;
-    many_items(&s, 0);
-    many_items(&s, 1);
-    many_items(&s, 101);
+    let mut r = Reading::<20, 14, 512>::new();
+    many(101, |size| {
+        r.whole(&s, size);
+        trial::sum(&r.tables.items)
+    });
 }
 
-// Read at once, and strictly, with room for one record each.
+// With room for one record each.
+fn shown<F: Fn(&mut Tables<20, 14, 2>) -> Read>(reading: F)
+    requires { F.IsAlwaysCallable reading }
+{
+    let mut t = Tables::marked();
+    let r = reading(&mut t);
+    t.line(r.answer, r.taken);
+}
+
+// Read at once, and strictly.
 fn once(s: &[u8]) {
-    let mut i = [7u32; 20];
-    let mut o = [7u32; 14];
-    let mut n = [7u32; 2];
-    let r = TransactionDecoder::read(s, &mut i, &mut o, &mut n);
-    let a = r.answer;
-    trial::line(a, r.taken, &i, &o, &n);
+    shown(|t| t.read(s));
 }
 
 fn strictly(s: &[u8]) {
-    let mut i = [7u32; 20];
-    let mut o = [7u32; 14];
-    let mut n = [7u32; 2];
-    let r = TransactionDecoder::read_strict(s, &mut i, &mut o, &mut n);
-    let a = r.answer;
-    trial::line(a, r.taken, &i, &o, &n);
+    shown(|t| t.read_strict(s));
 }
 
 // One refusal of each number that a reading gives.
@@ -201,165 +172,114 @@ fn refusals_8_and_9() {
     once(b"\x02\x00\x00\x00\x00\x00\x00\x00\x00\x00\x00\x00");
 }
 
-// An input table as it is lent, and room for one output and one item.
-fn inputs_in(s: &[u8], t: &mut [u32]) {
-    let mut o = [0u32; 14];
-    let mut n = [0u32; 2];
-    trial::whole(s, 0, t, &mut o, &mut n);
-}
-
-// No number at all.
-fn nowhere(s: &[u8]) {
-    let mut i = [0u32; 0];
-    let mut o = [0u32; 0];
-    let mut n = [0u32; 0];
-    trial::whole(s, 0, &mut i, &mut o, &mut n);
-}
-
-// 13 numbers are no output record.
-fn no_output(s: &[u8]) {
-    let mut i = [0u32; 41];
-    let mut o = [0u32; 13];
-    let mut n = [0u32; 2];
-    trial::whole(s, 0, &mut i, &mut o, &mut n);
-}
-
-// 1 number is no item record.
-fn no_item(s: &[u8]) {
-    let mut i = [0u32; 20];
-    let mut o = [0u32; 14];
-    let mut n = [0u32; 1];
-    trial::whole(s, 0, &mut i, &mut o, &mut n);
-}
-
 // One input in 1, 19, 20, 21 numbers.
 fn one_input(s: &[u8]) {
-    let mut a = [0u32; 1];
-    inputs_in(s, &mut a);
-    let mut b = [0u32; 19];
-    inputs_in(s, &mut b);
-    let mut c = [0u32; 20];
-    inputs_in(s, &mut c);
-    let mut d = [0u32; 21];
-    inputs_in(s, &mut d);
+    Reading::<1, 14, 2>::new().whole(s, 0);
+    Reading::<19, 14, 2>::new().whole(s, 0);
+    Reading::<20, 14, 2>::new().whole(s, 0);
+    Reading::<21, 14, 2>::new().whole(s, 0);
 }
 
 // Two inputs: 39 numbers are one record, 41 are two.
 fn two_inputs(s: &[u8]) {
-    let mut a = [0u32; 39];
-    inputs_in(s, &mut a);
-    let mut b = [0u32; 41];
-    inputs_in(s, &mut b);
+    Reading::<39, 14, 2>::new().whole(s, 0);
+    Reading::<41, 14, 2>::new().whole(s, 0);
 }
 
 // Tables of other sizes: whole records count, and surplus numbers stay 0.
 fn sizes() {
     // no number at all: the empty transaction is accepted, an input is not, an output is not
-    nowhere(b"\x02\x00\x00\x00\x00\x00\x00\x00\x00\x00\x00");
-    nowhere(
+    Reading::<0, 0, 0>::new().whole(b"\x02\x00\x00\x00\x00\x00\x00\x00\x00\x00\x00", 0);
+    Reading::<0, 0, 0>::new().whole(
         b"\x02\x00\x00\x00\x00\x01eeeeeeeeeeeeeeeeeeeeeeeeeeeeeeee\x00\x00\x00\x00\x00\xfe\xff\xff\xff\x00\x00\x00\x00\x00",
+        0,
     );
-    nowhere(b"\x02\x00\x00\x00\x00\x00\x01\x00\x00\x00\x00\x00\x00\x00\x00");
+    Reading::<0, 0, 0>::new().whole(
+        b"\x02\x00\x00\x00\x00\x00\x01\x00\x00\x00\x00\x00\x00\x00\x00",
+        0,
+    );
     one_input(
         b"\x02\x00\x00\x00\x00\x01eeeeeeeeeeeeeeeeeeeeeeeeeeeeeeee\x00\x00\x00\x00\x00\xfe\xff\xff\xff\x00\x00\x00\x00\x00",
     );
     two_inputs(
         b"\x02\x00\x00\x00\x00\x02eeeeeeeeeeeeeeeeeeeeeeeeeeeeeeee\x00\x00\x00\x00\x00\xfe\xff\xff\xffeeeeeeeeeeeeeeeeeeeeeeeeeeeeeeee\x01\x00\x00\x40\x00\xff\xff\xff\xff\x00\x00\x00\x00\x00",
     );
-    no_output(b"\x02\x00\x00\x00\x00\x00\x01\x00\x00\x00\x00\x00\x00\x00\x00");
-    no_item(
+    // 13 numbers are no output record, 1 number is no item record
+    Reading::<41, 13, 2>::new().whole(
+        b"\x02\x00\x00\x00\x00\x00\x01\x00\x00\x00\x00\x00\x00\x00\x00",
+        0,
+    );
+    Reading::<20, 14, 1>::new().whole(
         b"\x02\x00\x00\x00\x01\
         \x01eeeeeeeeeeeeeeeeeeeeeeeeeeeeeeee\x00\x00\x00\x00\x00\xfe\xff\xff\xff\
         \x01\x01eeeeeeeeeeeeeeeeeeeeeeeeeeeeeeee\x01\x00\x00\x00\x00\x00\x00\x01\x90\x00\x00\
         \x00\x00\x00\x00\x00\x00\x01\x00\x00\x00\x00",
+        0,
     );
 }
 
-// A transaction's answer, 0 or the refusal's number; how many numbers of each table it may fill, and their sum.
+// How many numbers of a table a transaction may fill, and their sum.
 #[derive(Clone, Copy)]
-struct Want {
-    no: usize,
-    taken: usize,
-    inputs: usize,
-    outputs: usize,
-    items: usize,
-    input_sum: u32,
-    output_sum: u32,
-    item_sum: u32,
+struct Filled {
+    numbers: usize,
+    sum: u32,
 }
 
-// More wanted is 100: it is never the answer of a reading that was finished.
-fn number_of(a: Answer) -> usize {
-    match a {
-        Answer::Finished(_) => 0,
-        Answer::More => 100,
-        Answer::Refused(no, _) => no,
-    }
+// A transaction, and what a reading of it leaves: whether it is refused, and by which rule, and the three tables.
+#[derive(Clone, Copy)]
+struct Case {
+    bytes: &'static [u8],
+    refused: Option<RefusalKind>,
+    taken: usize,
+    inputs: Filled,
+    outputs: Filled,
+    items: Filled,
 }
+
+// With room for 4 inputs, 5 outputs, 6 items.
+type Room = Tables<80, 70, 12>;
 
 // From a number on, all are 0, and all together have the sum.
-fn fits(t: &[u32], from: usize, sum: u32) -> bool {
-    if t.len() < from {
-        return false;
+fn fits(t: &[u32], w: Filled) -> bool {
+    w.numbers <= t.len() && trial::all(&t[w.numbers..], 0) && trial::sum(t) == w.sum
+}
+
+impl Case {
+    // Whether it is the answer to this one. More is never wanted where a reading was finished.
+    fn is_answered(self, a: Answer) -> bool {
+        match a {
+            Answer::Finished(_) => self.refused.is_none(),
+            Answer::More => false,
+            Answer::Refused(refusal) => self.refused == Some(refusal.kind),
+        }
     }
-    trial::all(&t[from..], 0) && trial::sum(t) == sum
-}
 
-// 0 if all is as wanted, else 1.
-fn judged(no: usize, taken: usize, w: Want, i: &[u32], o: &[u32], n: &[u32]) -> usize {
-    if no == w.no
-        && taken == w.taken
-        && fits(i, w.inputs, w.input_sum)
-        && fits(o, w.outputs, w.output_sum)
-        && fits(n, w.items, w.item_sum)
-    {
-        return 0;
+    // Whether a reading that took so many bytes left what it should.
+    fn kept(self, a: Answer, taken: usize, t: &Room) -> bool {
+        self.is_answered(a)
+            && taken == self.taken
+            && fits(&t.inputs, self.inputs)
+            && fits(&t.outputs, self.outputs)
+            && fits(&t.items, self.items)
     }
-    1
-}
 
-// Reads into the tables as they are, at once.
-fn at_once(s: &[u8], w: Want, i: &mut [u32], o: &mut [u32], n: &mut [u32]) -> usize {
-    let r = TransactionDecoder::read(s, i, o, n);
-    let a = r.answer;
-    judged(number_of(a), r.taken, w, i, o, n)
-}
-
-// A fresh start on the tables as they are; pieces of `step` bytes, `step` + 1, and so on.
-fn fed(s: &[u8], step: usize, i: &mut [u32], o: &mut [u32], n: &mut [u32]) -> Fed {
-    let f = trial::start(i, o, n);
-    trial::pour(f, s, step, 1, i, o, n)
-}
-
-// The same, and finish.
-fn in_pieces(s: &[u8], w: Want, step: usize, i: &mut [u32], o: &mut [u32], n: &mut [u32]) -> usize {
-    let f = fed(s, step, i, o, n);
-    let g = trial::finish(f, i, o, n);
-    let a = g.answer;
-    judged(number_of(a), g.taken, w, i, o, n)
-}
-
-// Step 0: at once.
-fn wrong(s: &[u8], w: Want, step: usize, i: &mut [u32], o: &mut [u32], n: &mut [u32]) -> usize {
-    if step == 0 {
-        return at_once(s, w, i, o, n);
+    // Reads into the tables as they are: at once, or in pieces of `step` bytes, `step` + 1, and so on.
+    fn read(self, step: usize, t: &mut Room) -> bool {
+        if step == 0 {
+            let r = t.read(self.bytes);
+            return self.kept(r.answer, r.taken, t);
+        }
+        let mut r = Reading::on(*t);
+        r.pour(self.bytes, step, 1);
+        r.finish();
+        *t = r.tables;
+        self.kept(r.fed.answer, r.fed.taken, t)
     }
-    in_pieces(s, w, step, i, o, n)
 }
 
-fn big(step: usize, i: &mut [u32], o: &mut [u32], n: &mut [u32]) -> usize {
-    let w = Want {
-        no: 0,
-        taken: 907,
-        inputs: 60,
-        outputs: 56,
-        items: 8,
-        input_sum: 3271827207,
-        output_sum: 14853,
-        item_sum: 3504,
-    };
-    wrong(
-        b"\x04\x03\x02\x01\x01\x03\
+fn big() -> Case {
+    Case {
+        bytes: b"\x04\x03\x02\x01\x01\x03\
         eeeeeeeeeeeeeeeeeeeeeeeeeeeeeeee\x05\x00\x00\xc0\x03eee\xfd\xff\xff\xffeeeeeeeeeeeeeeeeeeeeeeeeeeeeeeeeeeeeeeeeeeeeeeeeeeeeeeeeeeeeeeee\x01\x00\x00\x01\x02\x03\x04\x05\x06\x08eeeeeeeeeeeeeeeeeeeeeeeeeeeeeeee\
         eeeeeeeeeeeeeeeeeeeeeeeeeeeeeeee\xff\xff\xff\xff\x00\x01\x00\x00\x00\
         eeeeeeeeeeeeeeeeeeeeeeeeeeeeeeee\xff\xff\xff\xbf\x02ee\xfe\xff\xff\xffeeeeeeeeeeeeeeeeeeeeeeeeeeeeeeeeeeeeeeeeeeeeeeeeeeeeeeeeeeeeeeee\x00\x01\x80\x00\x00\x00\x00\x00\x00\x01\
@@ -376,108 +296,85 @@ fn big(step: usize, i: &mut [u32], o: &mut [u32], n: &mut [u32]) -> usize {
         \x03eee\x02ee\
         \x01e\x00\
         \x00\x04eeee",
-        w,
-        step,
-        i,
-        o,
-        n,
-    )
+        refused: None,
+        taken: 907,
+        inputs: Filled {
+            numbers: 60,
+            sum: 3271827207,
+        },
+        outputs: Filled {
+            numbers: 56,
+            sum: 14853,
+        },
+        items: Filled {
+            numbers: 8,
+            sum: 3504,
+        },
+    }
 }
 
-fn small(step: usize, i: &mut [u32], o: &mut [u32], n: &mut [u32]) -> usize {
-    let w = Want {
-        no: 0,
-        taken: 96,
-        inputs: 20,
-        outputs: 14,
-        items: 0,
-        input_sum: 47,
-        output_sum: 713,
-        item_sum: 0,
-    };
-    wrong(
-        b"\x02\x00\x00\x00\x00\
+fn small() -> Case {
+    Case {
+        bytes: b"\x02\x00\x00\x00\x00\
         \x01eeeeeeeeeeeeeeeeeeeeeeeeeeeeeeee\x00\x00\x00\x00\x00\xfe\xff\xff\xff\
         \x01\x01eeeeeeeeeeeeeeeeeeeeeeeeeeeeeeee\x01\x00\x00\x00\x00\x00\x00\x01\x90\x00\x00\
         \x00\x00\x00\x00",
-        w,
-        step,
-        i,
-        o,
-        n,
-    )
+        refused: None,
+        taken: 96,
+        inputs: Filled {
+            numbers: 20,
+            sum: 47,
+        },
+        outputs: Filled {
+            numbers: 14,
+            sum: 713,
+        },
+        items: Filled { numbers: 0, sum: 0 },
+    }
 }
 
-fn refused(step: usize, i: &mut [u32], o: &mut [u32], n: &mut [u32]) -> usize {
-    let w = Want {
-        no: 7,
-        taken: 96,
-        inputs: 0,
-        outputs: 0,
-        items: 0,
-        input_sum: 0,
-        output_sum: 0,
-        item_sum: 0,
-    };
-    wrong(
-        b"\x02\x00\x00\x00\x02\
+fn refused() -> Case {
+    Case {
+        bytes: b"\x02\x00\x00\x00\x02\
         \x01eeeeeeeeeeeeeeeeeeeeeeeeeeeeeeee\x00\x00\x00\x00\x00\xfe\xff\xff\xff\
         \x01\x01eeeeeeeeeeeeeeeeeeeeeeeeeeeeeeee\x01\x00\x00\x00\x00\x00\x00\x01\x90\x00\x00\
         \x00\x00\x00\x00",
-        w,
-        step,
-        i,
-        o,
-        n,
-    )
+        refused: Some(RefusalKind::BadFlag),
+        taken: 96,
+        inputs: Filled { numbers: 0, sum: 0 },
+        outputs: Filled { numbers: 0, sum: 0 },
+        items: Filled { numbers: 0, sum: 0 },
+    }
 }
 
-fn first_two(step: usize, i: &mut [u32], o: &mut [u32], n: &mut [u32]) -> usize {
-    let a = big(step, i, o, n);
-    let b = small(step, i, o, n);
-    std::num::wrapping_add_usize(a, b)
-}
-
-fn second_two(step: usize, i: &mut [u32], o: &mut [u32], n: &mut [u32]) -> usize {
-    let a = big(step, i, o, n);
-    let b = refused(step, i, o, n);
-    std::num::wrapping_add_usize(a, b)
-}
-
-// The big one, the small one, the big one, the refused one.
-fn round(step: usize, i: &mut [u32], o: &mut [u32], n: &mut [u32]) -> usize {
-    let a = first_two(step, i, o, n);
-    let b = second_two(step, i, o, n);
-    std::num::wrapping_add_usize(a, b)
-}
-
-// 250 rounds in the same tables, with room for 4 inputs, 5 outputs, 6 items: how many of the 1,000 went wrong. The first piece of each
-// transaction is `more` longer in each round; 0: at once.
-fn rounds(more: usize, i: &mut [u32], o: &mut [u32], n: &mut [u32]) -> usize {
-    let mut bad: usize = 0;
-    let mut step: usize = more;
-    let mut k: usize = 0;
-    while k < 250 {
-        bad = std::num::wrapping_add_usize(bad, round(step, i, o, n));
-        step = std::num::wrapping_add_usize(step, more);
-        k += 1;
+// The big one, the small one, the big one, the refused one: how many of them went wrong.
+fn round(step: usize, t: &mut Room) -> usize {
+    let mut bad = 0usize;
+    for c in [big(), small(), big(), refused()] {
+        if !c.read(step, t) {
+            bad = bad.wrapping_add(1);
+        }
     }
     bad
 }
 
+// 250 rounds in the same tables: how many of the 1,000 went wrong. The first piece of each transaction is `more` longer in each round; 0: at
+// once.
 fn thousand(more: usize) {
-    let mut i = [7u32; 80];
-    let mut o = [7u32; 70];
-    let mut n = [7u32; 12];
-    let bad = rounds(more, &mut i, &mut o, &mut n);
+    let mut t = Room::marked();
+    let mut bad = 0usize;
+    for k in 1..251usize {
+        bad = bad.wrapping_add(round(more.wrapping_mul(k), &mut t));
+    }
     trial::text(b"1000 transactions, wrong: ");
     trial::number(bad);
     trial::text(b"\n");
 }
 
-// 01's loads that are not marked (P): 96 bytes, 103 bytes, 6 at 47
+// 01's loads that are not marked (P): 96 bytes, 103 bytes, 6 at 47; with room for one record each
 fn loads() {
     thrice(
+        Reading::<20, 14, 2>::new(),
         b"\x02\x00\x00\x00\x00\
         \x01eeeeeeeeeeeeeeeeeeeeeeeeeeeeeeee\x00\x00\x00\x00\x00\xfe\xff\xff\xff\
         \x01\x01eeeeeeeeeeeeeeeeeeeeeeeeeeeeeeee\x01\x00\x00\x00\x00\x00\x00\x01\x90\x00\x00\
@@ -485,6 +382,7 @@ fn loads() {
         41,
     );
     thrice(
+        Reading::<20, 14, 2>::new(),
         b"\x02\x00\x00\x00\x01\
         \x01eeeeeeeeeeeeeeeeeeeeeeeeeeeeeeee\x00\x00\x00\x00\x00\xfe\xff\xff\xff\
         \x01\x01eeeeeeeeeeeeeeeeeeeeeeeeeeeeeeee\x01\x00\x00\x00\x00\x00\x00\x01\x90\x00\x00\
@@ -492,13 +390,16 @@ fn loads() {
         45,
     );
     thrice(
+        Reading::<20, 14, 2>::new(),
         b"\x02\x00\x00\x00\x00\x01eeeeeeeeeeeeeeeeeeeeeeeeeeeeeeee\x00\x00\x00\x80\x00\xfe\xff\xff\xffeeeeeeeeeeeeeeeeeeeeeeeeeeeeeeeeeeeeeeeeeeeeeeeeeeeeeeeeeeeeeeee\x00\x00",
         50,
     );
 }
 
+// With room for 3 inputs, 4 outputs, 4 items.
 fn every_feature() {
-    thrice_wide(
+    thrice(
+        Reading::<60, 56, 8>::new(),
         b"\x04\x03\x02\x01\x01\x03\
         eeeeeeeeeeeeeeeeeeeeeeeeeeeeeeee\x05\x00\x00\xc0\x03eee\xfd\xff\xff\xffeeeeeeeeeeeeeeeeeeeeeeeeeeeeeeeeeeeeeeeeeeeeeeeeeeeeeeeeeeeeeeee\x01\x00\x00\x01\x02\x03\x04\x05\x06\x08eeeeeeeeeeeeeeeeeeeeeeeeeeeeeeee\
         eeeeeeeeeeeeeeeeeeeeeeeeeeeeeeee\xff\xff\xff\xff\x00\x01\x00\x00\x00\

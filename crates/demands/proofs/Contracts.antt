@@ -11,12 +11,14 @@ use Rattle.decoders.proofs.TransactionDecoder.push_bytes.Reads as push
 use Rattle.decoders.proofs.TransactionDecoder.end.Reads as end
 use Rattle.decoders.proofs.TransactionDecoder.read.Reads as read
 use Rattle.decoders.proofs.TransactionDecoder.read_strict.Reads as strict
-use Rattle.encoders.specs.declared.Written.{Written}
+use Prim.Native.Nat.{ℕ}
+use Rattle.std.proofs.Common.{Result}
+use Rattle.encode.specs.declared.refusal.Refusal.{Refusal}
 use Rattle.encoders.specs.Answers as answers
 use Rattle.encoders.specs.Answers.{head_numbers}
 use Rattle.encoders.proofs.write.Reads as write
 use Rattle.encoders.proofs.written_length.Reads as length
-use Rattle.demands.specs.Ours.{called, wholly, reader, judged, left, writer}
+use Rattle.demands.specs.Ours.{called, reader, writer}
 
 pub new_is : (κ : _) (args : _) (r : State) (exit : _) → new.Post κ args r exit → record { state = r; tables = tables exit.0.now exit.1.0.now exit.1.1.0.now } ≡ reader.fresh (tables args.0.now args.1.0.now args.1.1.0.now)
 new_is κ args r exit p = ap (λ (m : Machine). record { state = m.state; tables = m.tables }) p
@@ -27,17 +29,17 @@ push_is κ args r exit p = ap called p
 pub end_is : (κ : _) (args : _) (r : Fed) (exit : _) → end.Post κ args r exit → called (out_of r (tables exit.1.0.now exit.1.1.0.now exit.1.1.1.0.now)) ≡ reader.end args.0 (tables args.1.0.now args.1.1.0.now args.1.1.1.0.now)
 end_is κ args r exit p = ap called p
 
-pub read_is : (κ : _) (args : _) (r : Read) (exit : _) → read.Post κ args r exit → wholly (whole_of r (tables exit.1.0.now exit.1.1.0.now exit.1.1.1.0.now)) ≡ reader.once (tables args.1.0.now args.1.1.0.now args.1.1.1.0.now) args.0.now
-read_is κ args r exit p = ap wholly p
+pub read_is : (κ : _) (args : _) (r : Read) (exit : _) → read.Post κ args r exit → whole_of r (tables exit.1.0.now exit.1.1.0.now exit.1.1.1.0.now) ≡ reader.once (tables args.1.0.now args.1.1.0.now args.1.1.1.0.now) args.0.now
+read_is κ args r exit p = p
 
-pub strict_is : (κ : _) (args : _) (r : Read) (exit : _) → strict.Post κ args r exit → wholly (whole_of r (tables exit.1.0.now exit.1.1.0.now exit.1.1.1.0.now)) ≡ reader.strict (tables args.1.0.now args.1.1.0.now args.1.1.1.0.now) args.0.now
-strict_is κ args r exit p = ap wholly p
+pub strict_is : (κ : _) (args : _) (r : Read) (exit : _) → strict.Post κ args r exit → whole_of r (tables exit.1.0.now exit.1.1.0.now exit.1.1.1.0.now) ≡ reader.strict (tables args.1.0.now args.1.1.0.now args.1.1.1.0.now) args.0.now
+strict_is κ args r exit p = p
 
-pub write_is : (κ : _) (args : _) (r : Written) (exit : _) → write.Post κ args r exit → left (answers.out_of r exit.1.1.1.1.1.0.now) ≡ writer.write (head_numbers args.0) (tables args.1.0.now args.1.1.0.now args.1.1.1.0.now) args.1.1.1.1.0.now args.1.1.1.1.1.0.now
-write_is κ args r exit p = ap left p
+pub write_is : (κ : _) (args : _) (r : Result ℕ Refusal) (exit : _) → write.Post κ args r exit → answers.out_of r exit.1.1.1.1.1.0.now ≡ writer.write (head_numbers args.0) (tables args.1.0.now args.1.1.0.now args.1.1.1.0.now) args.1.1.1.1.0.now args.1.1.1.1.1.0.now
+write_is κ args r exit p = p
 
-pub length_is : (κ : _) (args : _) (r : Written) (exit : _) → length.Post κ args r exit → judged r ≡ writer.long (head_numbers args.0) (tables args.1.0.now args.1.1.0.now args.1.1.1.0.now) args.1.1.1.1.0.now
-length_is κ args r exit p = ap judged p
+pub length_is : (κ : _) (args : _) (r : Result ℕ Refusal) (exit : _) → length.Post κ args r exit → answers.told r ≡ writer.long (head_numbers args.0) (tables args.1.0.now args.1.1.0.now args.1.1.1.0.now) args.1.1.1.1.0.now
+length_is κ args r exit p = p
 
 -- And none asks anything of its caller: "It never trusts the caller."
 pub new_asks_nothing : (κ : _) (args : _) → new.Pre κ args

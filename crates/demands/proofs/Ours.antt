@@ -2,7 +2,7 @@
 use Prim.Native.Nat.{ℕ, zero, suc, ◌+◌, ◌-◌, ◌≤◌}
 use mathlib.Core.Path.{◌≡◌, refl, sym, ◌∙◌, ap, subst}
 use mathlib.Core.Bool.{Bool, true, false, cond, ◌&&◌, true≢false}
-use mathlib.Core.List.{List, [], ◌∷◌, ◌++◌}
+use mathlib.Core.List.{List, [], ◌∷◌}
 use native.Mathlib.Omega.{arith}
 use lib.Dec.{leb, eqb}
 use lib.ListN.{length, set, length-set}
@@ -13,12 +13,14 @@ use Rattle.layout.specs.Outcome as outcome
 use Rattle.layout.specs.Outcome.{Tables, Outcome, zeros, partial, at_once, strict}
 use Rattle.layout.specs.Writing as paper
 use Rattle.layout.proofs.Reading.{by_cases, refused_not_more, finished_not_more}
+use Rattle.std.specs.Prelude.{Option, Some, None}
+use Rattle.decoders.specs.declared.Table.{Table}
+use Rattle.decoders.specs.declared.Table.TheVariants.{Input, Output, Item}
+use Rattle.decoders.specs.declared.Entered.{Entered}
 use Rattle.decoders.specs.declared.Sizes.{Sizes}
-use Rattle.decoders.specs.declared.Answer.{Answer}
-use Rattle.decoders.specs.declared.Answer.TheVariants.{Finished, More, Refused}
-use Rattle.decoders.specs.Machine.{State, refuse, stored, enter_by, Machine, machine, entering, step, gather, settle, fed, head_of, answer_of, fresh}
+use Rattle.decoders.specs.Machine.{State, refuse, next_stored, stored, enter_by, enter, Machine, machine, entering, step, gather, settle, fed, head_of, answer_of, fresh}
 use Rattle.decoders.specs.Range.{in_range}
-use Rattle.decoders.specs.Feeding.{sizes_of, cleared, begun, told, Out, gate, closed, pushed, ended, finish}
+use Rattle.decoders.specs.Feeding.{sizes_of, cleared, begun, Out, gate, closed, pushed, ended, finish}
 use Rattle.decoders.proofs.Ranges as range
 use Rattle.decoders.proofs.Ranges.{by_stage}
 use Rattle.decoders.proofs.Entries.{gate_starts, finish_closes}
@@ -28,30 +30,11 @@ use Rattle.decoders.proofs.Theorems.{pushed_open, ended_open, open_answer_end, m
 use Rattle.encoders.specs.Answers as answers
 use Rattle.demands.specs.Demands.{Call, sizes, Piece, Ask, piece, done, sent, Way, at_once_lem, strictly, call, started, next, calls, read, Numbered, misuse, settled, Repeated, Room, Leaves, Left, Alike, untouched, Known, Sized, Demand1, Demand2, Demand3, AsPaper}
 use Rattle.demands.specs.Demands as page
-use Rattle.demands.specs.Ours.{heard, called, reader, judged, writer}
+use Rattle.demands.specs.Ours.{called, reader, writer}
 use Rattle.demands.proofs.Calls.{settled_sizes, left_same, left_equal, leaves_then, left_then, Follows, follows_reads}
 use Rattle.demands.proofs.Paper.{bytes_both, paper_demand_2, paper_demand_3, paper_whole}
 
--- ---- what is told is heard
-
-pub heard_told : (a : layout.Answer Head) → heard (told a) ≡ a
-heard_told (layout.finished h) = refl
-heard_told layout.more = refl
-heard_told (layout.refused n p) = refl
-
-pub heard_more : (a : Answer) → heard a ≡ layout.more → a ≡ More
-heard_more (Finished h) e = absurd (let z : ◌≡◌ {A = ℕ} 0 1 = cc in omega arith)
-heard_more More e = refl
-heard_more (Refused n p) e = absurd (let z : ◌≡◌ {A = ℕ} 0 1 = cc in omega arith)
-
-pub heard_refused : (a : Answer) (n p : ℕ) → heard a ≡ layout.refused n p → a ≡ Refused n p
-heard_refused (Finished h) n p e = absurd (let z : ◌≡◌ {A = ℕ} 0 1 = cc in omega arith)
-heard_refused More n p e = absurd (let z : ◌≡◌ {A = ℕ} 0 1 = cc in omega arith)
-heard_refused (Refused m q) n p e = cc
-
-judged_told : (v : paper.Verdict) → judged (answers.told v) ≡ v
-judged_told (paper.wrote n) = refl
-judged_told (paper.unwritten n p) = refl
+-- ---- what is told is judged
 
 -- ---- every call on every state: let through, or misused
 
@@ -97,7 +80,7 @@ closed_tables x v r =
 
 closed_passed : (x : State) (n : ℕ) (v : Tables) → in_range x ≡ true → called (closed x n v) ≡ passed x n v
 unfolding closed
-closed_passed x n v r = λ j. record { state = x; outcome = record { answer = heard_told (answer_of x) j; taken = n; tables = closed_tables x v r j } }
+closed_passed x n v r = λ j. record { state = x; outcome = record { answer = answer_of x; taken = n; tables = closed_tables x v r j } }
 
 -- it leaves a state within its range, of the tables' sizes
 record Through (t : Tables) (x : State) (v : Tables) : Type 0 where
@@ -117,7 +100,7 @@ by_call :
 by_call P s t (piece b) f g =
     by_cases (eqb (gate s (sizes_of t)) 0)
     (λ z. let k = eqb-true (gate s (sizes_of t)) 0 z in
-    let w = gate_starts s t (gate s (sizes_of t)) refl k in
+    let w = gate_starts s t k in
     let m = fed (machine s t) b.bytes in
     let n = m.state.taken - s.taken in
     let r = fed_range (machine s t) b.bytes b.below w.range in
@@ -127,7 +110,7 @@ by_call P s t (piece b) f g =
 by_call P s t done f g =
     by_cases (eqb (gate s (sizes_of t)) 0)
     (λ z. let k = eqb-true (gate s (sizes_of t)) 0 z in
-    let w = gate_starts s t (gate s (sizes_of t)) refl k in
+    let w = gate_starts s t k in
     let r = finish_closes s w.range in
     subst P (sym (ap called (ended_open s t k) ∙ closed_passed (finish s) 0 t r))
     (f (finish s) 0 t (record { range = r; its_sizes = finish_sizes s ∙ w.sizes; same = refl })))
@@ -246,10 +229,6 @@ ours_final s t q =
 abbrev At : Tables → List ℕ → State → Type 0
 At t xs s = s ≡ (fed (begun t) xs).state
 
--- what a call gave, as the page sees it
-seen : (n : ℕ) (a : layout.Answer Head) (t : Tables) → ◌≡◌ {A = Outcome} (record { answer = heard (told a); taken = n; tables = t }) (record { answer = a; taken = n; tables = t })
-seen n a t = λ j. record { answer = heard_told a j; taken = n; tables = t }
-
 follows : (t : Tables) → Follows reader t (At t)
 unfolding fed
 follows t =
@@ -259,25 +238,25 @@ follows t =
           let z = sizes t in
           let ys = p.bytes in
           let o = ap (λ (x : State). pushed x (partial z xs).tables ys) w ∙ call_reads t xs q ys (bytes_both xs ys q p.below) in
-          (ap (λ (x : Out). x.fed.decoder) o, ap (λ (x : Out). (called x).outcome) o ∙ seen _ (partial z (xs ++ ys)).answer (partial z (xs ++ ys)).tables);
+          (ap (λ (x : Out). x.state) o, ap (λ (x : Out). (called x).outcome) o);
       closes = λ xs q s w.
           let z = sizes t in
-          ap (λ (x : Out). (called x).outcome) (ap (λ (x : State). ended x (partial z xs).tables) w ∙ finish_reads t xs q) ∙ seen 0 (at_once z xs).answer (at_once z xs).tables;
+          ap (λ (x : Out). (called x).outcome) (ap (λ (x : State). ended x (partial z xs).tables) w ∙ finish_reads t xs q);
       final = ours_final;
       zeroed = ours_refused;
     }
 
 ours_reads : (t : Tables) (v : Way) → read reader t v ≡ page.paper (sizes t) v
 ours_reads t (page.fed qs) = follows_reads reader t (At t) (follows t) qs
-ours_reads t (at_once_lem p) = let o = at_once (sizes t) p.bytes in seen o.taken o.answer o.tables
-ours_reads t (strictly p) = let o = strict (sizes t) p.bytes in seen o.taken o.answer o.tables
+ours_reads t (at_once_lem p) = refl
+ours_reads t (strictly p) = refl
 
 pub as_paper : AsPaper reader writer
 as_paper =
     record {
       reads = ours_reads;
-      writes = λ h t source out. let b = paper.writing h t source out in λ j. record { answer = judged_told b.answer j; output = b.output };
-      lengths = λ h t source. judged_told (paper.written_length h t source);
+      writes = λ h t source out. refl;
+      lengths = λ h t source. refl;
     }
 
 -- ---- demand 1: the rest
@@ -292,27 +271,26 @@ set_leaves (x ∷ xs) (y ∷ ys) zero a e (suc j) h = (refl, refl)
 set_leaves (x ∷ xs) (y ∷ ys) (suc i) a e zero h = (refl, refl)
 set_leaves (x ∷ xs) (y ∷ ys) (suc i) a e (suc j) h = set_leaves xs ys i a (omega (arith, e)) j h
 
-stored_leaves : (n : _) (xs ys : List ℕ) → length xs ≡ length ys → Leaves xs ys (stored n xs) (stored n ys)
-stored_leaves n xs ys e =
-    by_cases (eqb n.count 0)
-    (λ a. rw a (λ j h. (refl, refl)))
-    (λ a. by_cases (eqb n.count 1)
-    (λ b. rw (a, b) (set_leaves xs ys n.at n.number e))
-    (λ b. let us = set xs n.at n.number in
-    let vs = set ys n.at n.number in
-    rw (a, b)
-    (leaves_then xs ys us vs (set us n.at2 n.number2) (set vs n.at2 n.number2) (set_leaves xs ys n.at n.number e)
-    (set_leaves us vs n.at2 n.number2 (length-set xs n.at n.number ∙ e ∙ sym (length-set ys n.at n.number))))))
+stored_leaves : (e : Entered) (xs ys : List ℕ) → length xs ≡ length ys → Leaves xs ys (stored e xs) (stored e ys)
+stored_leaves e xs ys q =
+    let us = set xs e.at e.number in
+    let vs = set ys e.at e.number in
+    let first = set_leaves xs ys e.at e.number q in
+    elim e.next as (λ o. Leaves xs ys (next_stored o (e.at + 1) us) (next_stored o (e.at + 1) vs)) [
+      | None ↦ first
+      | Some n ↦
+          leaves_then xs ys us vs (set us (e.at + 1) n) (set vs (e.at + 1) n) first
+          (set_leaves us vs (e.at + 1) n (length-set xs e.at e.number ∙ q ∙ sym (length-set ys e.at e.number)))
+    ]
 
-entered_left : (n : _) (t t' : Tables) → sizes t ≡ sizes t' → Left t t' (enter_by n.table n t) (enter_by n.table n t')
-entered_left n t t' e =
-    by_cases (eqb n.table 0)
-    (λ a. rw a (left_same t t'))
-    (λ a. by_cases (eqb n.table 1)
-    (λ b. rw (a, b) (record { inputs = stored_leaves n t.inputs t'.inputs (λ j. (e j).inputs); outputs = λ j h. (refl, refl); items = λ j h. (refl, refl) }))
-    (λ b. by_cases (eqb n.table 2)
-    (λ c. rw (a, b, c) (record { inputs = λ j h. (refl, refl); outputs = stored_leaves n t.outputs t'.outputs (λ j. (e j).outputs); items = λ j h. (refl, refl) }))
-    (λ c. rw (a, b, c) (record { inputs = λ j h. (refl, refl); outputs = λ j h. (refl, refl); items = stored_leaves n t.items t'.items (λ j. (e j).items) }))))
+table_left : (table : Table) (e : Entered) (t t' : Tables) → sizes t ≡ sizes t' → Left t t' (enter_by table e t) (enter_by table e t')
+table_left Input e t t' q = record { inputs = stored_leaves e t.inputs t'.inputs (λ j. (q j).inputs); outputs = λ j h. (refl, refl); items = λ j h. (refl, refl) }
+table_left Output e t t' q = record { inputs = λ j h. (refl, refl); outputs = stored_leaves e t.outputs t'.outputs (λ j. (q j).outputs); items = λ j h. (refl, refl) }
+table_left Item e t t' q = record { inputs = λ j h. (refl, refl); outputs = λ j h. (refl, refl); items = stored_leaves e t.items t'.items (λ j. (q j).items) }
+
+entered_left : (e : Option Entered) (t t' : Tables) → sizes t ≡ sizes t' → Left t t' (enter e t) (enter e t')
+entered_left None t t' q = left_same t t'
+entered_left (Some e) t t' q = table_left e.table e t t' q
 
 -- a byte, of one state and two tables
 record Stepped (t t' : Tables) (m m' : Machine) : Type 0 where
@@ -363,10 +341,10 @@ asked_left s t t' done e =
     (λ z. rw (sym g, z) (left_same t t'))
 
 ours_apart : (s : State) (t t' : Tables) (q : Ask) → sizes t ≡ sizes t' → Alike t t' (call reader s t q) (call reader s t' q)
-ours_apart s t t' (piece b) e = let f = tables_apart s t t' b.bytes (as_code t t' e) in record { state = λ j. (f j).decoder; answer = λ j. heard (f j).answer; taken = λ j. (f j).taken; tables = asked_left s t t' (piece b) e }
-ours_apart s t t' done e = let f = tables_apart_end s t t' (as_code t t' e) in record { state = λ j. (f j).decoder; answer = λ j. heard (f j).answer; taken = λ j. (f j).taken; tables = asked_left s t t' done e }
+ours_apart s t t' (piece b) e = let f = tables_apart s t t' b.bytes (as_code t t' e) in record { state = λ j. (f j).0; answer = λ j. (f j).2; taken = λ j. (f j).1; tables = asked_left s t t' (piece b) e }
+ours_apart s t t' done e = let f = tables_apart_end s t t' (as_code t t' e) in record { state = λ j. (f j).0; answer = λ j. (f j).2; taken = λ j. (f j).1; tables = asked_left s t t' done e }
 
-end_takes : (s : State) (t : Tables) → (ended s t).fed.taken ≤ 0
+end_takes : (s : State) (t : Tables) → (ended s t).taken ≤ 0
 unfolding ended closed
 end_takes s t = by_cases (eqb (gate s (sizes_of t)) 0) (λ e. rw e (omega arith)) (λ e. rw e (omega arith))
 
@@ -375,7 +353,7 @@ ours_within s t (piece b) = call_within s t b.bytes
 ours_within s t done = end_takes s t
 
 ours_entire : (s : State) (t : Tables) (p : Piece) → (reader.push s t p.bytes).outcome.answer ≡ layout.more → (reader.push s t p.bytes).outcome.taken ≡ length p.bytes
-ours_entire s t p e = piece_entire s t p.bytes p.below (heard_more (pushed s t p.bytes).fed.answer e)
+ours_entire s t p e = piece_entire s t p.bytes p.below e
 
 -- a state that wants more is let through, and in a field
 record Wants (s : State) (t : Tables) : Type 0 where
@@ -385,15 +363,14 @@ record Wants (s : State) (t : Tables) : Type 0 where
 wants_of : (s : State) (t : Tables) → (reader.push s t []).outcome.answer ≡ layout.more → Wants s t
 unfolding fed closed
 wants_of s t e =
-    let m = heard_more (pushed s t []).fed.answer e in
     by_cases (eqb (gate s (sizes_of t)) 0)
     (λ z. let k = eqb-true (gate s (sizes_of t)) 0 z in
-    let a : answer_of s ≡ layout.more = sym (heard_told (answer_of s)) ∙ ap heard (sym (ap (λ (x : Out). x.fed.answer) (pushed_open s t [] k)) ∙ m) in
-    by_answer s (gate_starts s t (gate s (sizes_of t)) refl k).range
+    let a : answer_of s ≡ layout.more = sym (ap (λ (x : Out). x.answer) (pushed_open s t [] k)) ∙ e in
+    by_answer s (gate_starts s t k).range
     (λ below _. record { through = k; below = below })
     (λ _ e k. absurd (let y : ◌≡◌ {A = ℕ} 0 1 = cc in omega arith))
     (λ _ e k. no_refusal _ _ (sym a ∙ e)))
-    (λ z. absurd (more_not_refused _ _ (sym m ∙ ap (λ (x : Out). x.fed.answer) (misuse_untouched s t [] (eqb-false (gate s (sizes_of t)) 0 z)))))
+    (λ z. absurd (more_not_refused _ _ (sym e ∙ ap (λ (x : Out). x.answer) (misuse_untouched s t [] (eqb-false (gate s (sizes_of t)) 0 z)))))
 
 ours_empty : (s : State) (t : Tables) → (reader.push s t []).outcome.answer ≡ layout.more → reader.push s t [] ≡ record { state = s; outcome = record { answer = layout.more; taken = 0; tables = t } }
 ours_empty s t e = let w = wants_of s t e in ap called (empty_nothing s t w.through (omega (arith, w.below)))
@@ -403,7 +380,7 @@ ours_wanting s t q =
     by_call (λ c. c.outcome.answer ≡ layout.more → (u : Tables) → sizes u ≡ sizes t → (reader.push c.state u []).outcome.answer ≡ layout.more) s t q
     (λ x n v w a u k.
     by_answer x w.range
-    (λ below _. ap (λ (o : Out). heard o.fed.answer) (empty_nothing x u (gate_zero x (sizes_of u) w.range (w.its_sizes ∙ as_code t u (sym k))) (omega (arith, below))))
+    (λ below _. ap (λ (o : Out). o.answer) (empty_nothing x u (gate_zero x (sizes_of u) w.range (w.its_sizes ∙ as_code t u (sym k))) (omega (arith, below))))
     (λ _ e _. absurd (finished_not_more (sym e ∙ a)))
     (λ _ e _. absurd (refused_not_more (sym e ∙ a))))
     (λ g a. absurd (refused_not_more a))
@@ -413,7 +390,7 @@ unfolding finish answer_of
 ours_one s t e =
     let w = wants_of s t e in
     let refuses : finish s ≡ refuse 1 s.taken s = rw (lt-leb 25 s.field.stage (omega (arith, w.below))) in
-    (s.taken, ap heard (open_answer_end s t w.through) ∙ ap (λ (x : State). heard (told (answer_of x))) refuses)
+    (s.taken, open_answer_end s t w.through ∙ ap (λ (x : State). answer_of x) refuses)
 
 -- states handed on from a fresh start are within their range, and keep its sizes
 record Own (z : Sizes) (s : State) : Type 0 where
@@ -429,32 +406,29 @@ unfolding calls
 own [] z c o = o
 own (q ∷ qs) z c o = own qs z (next reader c q) (own_call z c.state c.outcome.tables q o)
 
-refused_heard : (a : Answer) (n p : ℕ) → a ≡ Refused n p → heard a ≡ layout.refused n p
-refused_heard a n p e = ap heard e
-
 as_sizes : (s : State) (u : Tables) → shown s.sizes ≡ sizes u → s.sizes ≡ sizes_of u
 as_sizes s u e = λ j. record { inputs = (e j).inputs; outputs = (e j).outputs; items = (e j).items }
 
 ours_ten : (s : State) → in_range s ≡ true → Sized reader (shown s.sizes) s
 ours_ten s r u (piece b) =
     let k = ten_answered s u b.bytes b.below in (
-      λ e same. (k.0 (heard_refused (pushed s u b.bytes).fed.answer 10 0 e)).1 (as_sizes s u same),
-      λ other. refused_heard (pushed s u b.bytes).fed.answer 10 0 (k.1 (r, λ same. other (ap shown same))),
+      λ e same. (k.0 e).1 (as_sizes s u same),
+      λ other. k.1 (r, λ same. other (ap shown same)),
     )
 ours_ten s r u done =
     let k = ten_answered_end s u in (
-      λ e same. (k.0 (heard_refused (ended s u).fed.answer 10 0 e)).1 (as_sizes s u same),
-      λ other. refused_heard (ended s u).fed.answer 10 0 (k.1 (r, λ same. other (ap shown same))),
+      λ e same. (k.0 e).1 (as_sizes s u same),
+      λ other. k.1 (r, λ same. other (ap shown same)),
     )
 
 -- 11 by the state alone
 eleven_out : (s : State) (t : Tables) (q : Ask) → (call reader s t q).outcome.answer ≡ layout.refused 11 0 → in_range s ≡ false
-eleven_out s t (piece b) e = (eleven_answered s t b.bytes b.below).0 (heard_refused (pushed s t b.bytes).fed.answer 11 0 e)
-eleven_out s t done e = (eleven_answered_end s t).0 (heard_refused (ended s t).fed.answer 11 0 e)
+eleven_out s t (piece b) e = (eleven_answered s t b.bytes b.below).0 e
+eleven_out s t done e = (eleven_answered_end s t).0 e
 
 out_eleven : (s : State) (t : Tables) (q : Ask) → in_range s ≡ false → (call reader s t q).outcome.answer ≡ layout.refused 11 0
-out_eleven s t (piece b) e = ap heard ((eleven_answered s t b.bytes b.below).1 e)
-out_eleven s t done e = ap heard ((eleven_answered_end s t).1 e)
+out_eleven s t (piece b) e = (eleven_answered s t b.bytes b.below).1 e
+out_eleven s t done e = (eleven_answered_end s t).1 e
 
 ours_any : (s : State) → Known reader s → (z : outcome.Sizes) × Sized reader z s
 ours_any s k =
@@ -463,12 +437,12 @@ ours_any s k =
     (λ r. absurd (let none : Tables = record { inputs = []; outputs = []; items = [] } in k none done 0 (out_eleven s none done r)))
 
 ours_known : (s : State) → NeverEleven s → Known reader s
-ours_known s k t (piece b) p e = (k t p).0 b.bytes b.below (heard_refused (pushed s t b.bytes).fed.answer 11 p e)
-ours_known s k t done p e = (k t p).1 (heard_refused (ended s t).fed.answer 11 p e)
+ours_known s k t (piece b) p e = (k t p).0 b.bytes b.below e
+ours_known s k t done p e = (k t p).1 e
 
 ours_next : (s : State) (t : Tables) (q : Ask) → ((call reader s t q).outcome.answer ≡ layout.refused 11 0 → ⊥) → Known reader (call reader s t q).state
-ours_next s t (piece b) h = ours_known (pushed s t b.bytes).fed.decoder (never_eleven_next s t b.bytes b.below (λ e. h (refused_heard (pushed s t b.bytes).fed.answer 11 0 e)))
-ours_next s t done h = ours_known (ended s t).fed.decoder (never_eleven_next_end s t (λ e. h (refused_heard (ended s t).fed.answer 11 0 e)))
+ours_next s t (piece b) h = ours_known (pushed s t b.bytes).state (never_eleven_next s t b.bytes b.below h)
+ours_next s t done h = ours_known (ended s t).state (never_eleven_next_end s t h)
 
 -- ---- ours meets the page
 
@@ -479,7 +453,7 @@ demand_1 =
       numbered = ours_numbered;
       nine = ours_nine;
       placed = w.placed;
-      ended = λ s t e. end_never_more s t (heard_more (ended s t).fed.answer e);
+      ended = λ s t e. end_never_more s t e;
       ended_once = w.ended_once;
       entire = ours_entire;
       empty = ours_empty;

@@ -1,4 +1,5 @@
 pub mod Number
+pub mod Refusals
 pub mod Compact
 pub mod Reader
 pub mod Theorems

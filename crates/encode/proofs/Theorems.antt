@@ -6,9 +6,13 @@ use mathlib.Core.Bool.{Bool}
 use mathlib.Core.Option.{some}
 use Rattle.layout.specs.Layout.{Answer, finished, more, refused}
 use Rattle.layout.specs.Outcome.{number_of, place_of}
-use Rattle.encode.specs.declared.Count.{Count}
-use Rattle.encode.specs.declared.Count.TheVariants.{Value, Refused}
+use Rattle.std.specs.Prelude.{Result, Ok, Err}
+use Rattle.encode.specs.declared.refusal.Refusal.{Refusal}
+use Rattle.encode.specs.declared.refusal.RefusalKind.{RefusalKind}
+use Rattle.encode.specs.declared.refusal.RefusalKind.TheVariants.{EndsEarly}
 use Rattle.encode.specs.Count.{answer_of}
+use Rattle.encode.specs.Refusal as kind
+use Rattle.encode.proofs.Refusals.{kind_of, kind_of_number}
 use Rattle.encode.proofs.announced.Reads as announced
 use Rattle.encode.proofs.is_shortest.Reads as is_shortest
 use Rattle.encode.proofs.read_count.Reads as read_count
@@ -19,19 +23,19 @@ one_outcome_announced κ args r r' exit exit' p q = p ∙ sym q
 pub one_outcome_is_shortest : (κ : _) (args : _) (r r' : Bool) (exit exit' : _) → is_shortest.Post κ args r exit → is_shortest.Post κ args r' exit' → r ≡ r'
 one_outcome_is_shortest κ args r r' exit exit' p q = p ∙ sym q
 
--- 01's number and place of each case of the enum
-pub count_numbers : (n p : ℕ) → (number_of (answer_of (Value n)) ≡ some 0) × (place_of (answer_of (Value n)) ≡ 0) × (number_of (answer_of (Refused n p)) ≡ some n) × (place_of (answer_of (Refused n p)) ≡ p)
-count_numbers n p = (refl, refl, refl, refl)
+-- 01's number and place of each case of the result
+pub count_numbers : (n : ℕ) (e : Refusal) → (number_of (answer_of (Ok n)) ≡ some 0) × (place_of (answer_of (Ok n)) ≡ 0) × (number_of (answer_of (Err e)) ≡ some (kind.number_of e.kind)) × (place_of (answer_of (Err e)) ≡ e.place)
+count_numbers n e = (refl, refl, refl, refl)
 
--- an answer of 01 is that of one case at most
-abbrev told : Answer ℕ → Count
-told (finished n) = Value n
-told more = Refused 0 0
-told (refused n p) = Refused n p
+-- an answer of 01 is that of one case at most: no two kinds have one number
+abbrev pub told : Answer ℕ → Result ℕ Refusal
+told (finished n) = Ok n
+told more = Err (record { kind = EndsEarly; place = 0 })
+told (refused n p) = Err (record { kind = kind_of n; place = p })
 
-told_back : (c : Count) → told (answer_of c) ≡ c
-told_back (Value n) = refl
-told_back (Refused n p) = refl
+told_back : (r : Result ℕ Refusal) → told (answer_of r) ≡ r
+told_back (Ok n) = refl
+told_back (Err e) = ap (λ (k : RefusalKind). Err (record { kind = k; place = e.place })) (kind_of_number e.kind)
 
-pub one_outcome_read_count : (κ : _) (args : _) (r r' : Count) (exit exit' : _) → read_count.Post κ args r exit → read_count.Post κ args r' exit' → r ≡ r'
+pub one_outcome_read_count : (κ : _) (args : _) (r r' : Result ℕ Refusal) (exit exit' : _) → read_count.Post κ args r exit → read_count.Post κ args r' exit' → r ≡ r'
 one_outcome_read_count κ args r r' exit exit' p q = sym (told_back r) ∙ ap told (p ∙ sym q) ∙ told_back r'

@@ -1,23 +1,16 @@
 // The count reader on document 01's loads and their cut forms: a line for each, the value or the refusal's number and place.
 #![tactic(auto)]
 
-use encode::Count;
+use std::fmt::InlineText;
 
 const STDOUT_FILENO: i32 = 1;
 
-fn print(n: usize) {
-    io::print_decimal(STDOUT_FILENO, n as u64);
-}
-
 fn show(s: &[u8]) {
-    match encode::read_count(s) {
-        Count::Value(n) => print(n),
-        Count::Refused(number, place) => {
-            print(number);
-            io::write_all(STDOUT_FILENO, b" at ");
-            print(place);
-        }
-    }
+    let text = match encode::read_count(s) {
+        Ok(n) => InlineText::<64>::of(n),
+        Err(refusal) => InlineText::<64>::of(refusal),
+    };
+    io::write_all(STDOUT_FILENO, text.as_str().as_bytes());
     io::write_all(STDOUT_FILENO, b"\n");
 }
 

@@ -2,17 +2,20 @@
 -- it off the function's clauses; it speaks of the lifetimes, the arguments, the result, and the arguments at exit.
 use mathlib.Core.Path.{◌≡◌, sym, ◌∙◌, ap}
 use mathlib.Core.Bool.{Bool}
-use Rattle.encoders.specs.declared.Written.{Written}
-use Rattle.encoders.specs.Answers.{Out}
+use Prim.Native.Nat.{ℕ}
+use Rattle.std.proofs.Common.{Result}
+use Rattle.layout.specs.Writing as writing
+use Rattle.encode.specs.declared.refusal.Refusal.{Refusal}
+use Rattle.encoders.proofs.Refusals.{told_alike}
 use Rattle.encoders.proofs.write.Reads as write
 use Rattle.encoders.proofs.written_length.Reads as length
 use Rattle.encoders.proofs.is_fee.Reads as fee
 
-pub one_outcome_write : (κ : _) (args : _) (r r' : Written) (exit exit' : _) → write.Post κ args r exit → write.Post κ args r' exit' → (r ≡ r') × (exit.1.1.1.1.1.0.now ≡ exit'.1.1.1.1.1.0.now)
-one_outcome_write κ args r r' exit exit' p q = let e = p ∙ sym q in (ap (λ (x : Out). x.answer) e, ap (λ (x : Out). x.output) e)
+pub one_outcome_write : (κ : _) (args : _) (r r' : Result ℕ Refusal) (exit exit' : _) → write.Post κ args r exit → write.Post κ args r' exit' → (r ≡ r') × (exit.1.1.1.1.1.0.now ≡ exit'.1.1.1.1.1.0.now)
+one_outcome_write κ args r r' exit exit' p q = let e = p ∙ sym q in (told_alike (ap (λ (x : writing.Written). x.answer) e), ap (λ (x : writing.Written). x.output) e)
 
-pub one_outcome_length : (κ : _) (args : _) (r r' : Written) (exit exit' : _) → length.Post κ args r exit → length.Post κ args r' exit' → r ≡ r'
-one_outcome_length κ args r r' exit exit' p q = p ∙ sym q
+pub one_outcome_length : (κ : _) (args : _) (r r' : Result ℕ Refusal) (exit exit' : _) → length.Post κ args r exit → length.Post κ args r' exit' → r ≡ r'
+one_outcome_length κ args r r' exit exit' p q = told_alike (p ∙ sym q)
 
 pub one_outcome_fee : (κ : _) (args : _) (r r' : Bool) (exit exit' : _) → fee.Post κ args r exit → fee.Post κ args r' exit' → r ≡ r'
 one_outcome_fee κ args r r' exit exit' p q = p ∙ sym q

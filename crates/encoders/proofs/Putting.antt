@@ -1,20 +1,22 @@
--- Laws of putting bytes, one part behind the other.
-use Prim.Native.Nat.{ℕ, ◌+◌, ◌*◌, ◌/◌, ◌%◌, ◌^◌, ◌≤◌, ◌<◌}
-use mathlib.Core.Path.{◌≡◌, refl, sym, ◌∙◌, ap, ap₂, subst}
+-- Laws of putting bytes into a slice, and what the parts of a transaction are in the code's words.
+use Prim.Native.Nat.{ℕ, ◌+◌, ◌-◌, ◌*◌, ◌/◌, ◌%◌, ◌^◌, ◌≤◌, ◌<◌}
+use mathlib.Core.Path.{◌≡◌, refl, sym, ◌∙◌, ap, ap₂}
 use mathlib.Core.List.{List, [], ◌∷◌, ◌++◌, append_assoc}
 use native.Mathlib.Omega.{arith}
 use native.Mathlib.Numerals.{add-one}
-use lib.ListN.{length, take, drop, set, get_or, length-append, length-take, length-drop, take-append-drop, drop_of_length-le}
-use lib.Seq.{take_at, drop_at, drop-drop, drop-cons, length-take-le, set_split, get_or-take, get_or-drop}
+use lib.ListN.{length, take, drop, set, length-append, length-drop}
+use lib.Seq.{take_at, drop_at, drop-drop, length-take-le, set_split}
 use lib.Bits.{bit_or, or_zero_r, or_shifted_r}
 use lib.Dec.{leb, eqb}
 use mathlib.Core.Bool.{true, false, cond}
 use borrow.Author.Tests.{le-leb, lt-leb, eq-eqb, ne_eqb, eqb-true, leb-false}
+use Rattle.std.proofs.Common.{w16, w32}
+use Rattle.std.specs.Int.{to_le_bytes, to_be_bytes}
 use Rattle.layout.proofs.Reading.{by_cases}
 use Rattle.layout.specs.Number.{little, big, bytes_of}
 use Rattle.layout.specs.Contents.{compact_bytes, body_bytes, value_bytes, token_bytes, issuance_bytes, input_bytes, raw_vout, confused}
 use Rattle.layout.specs.Writing.{over, body, ◌!◌, value_of, value_width, token_of, input_of}
-use Rattle.encoders.specs.Puts.{Room, Puts, Prefixed, issuance_in, IssuanceLies}
+use Rattle.encoders.specs.Puts.{Room, Puts, issuance_in}
 
 clash : true ≡ false → ⊥
 clash e = let z : ◌≡◌ {A = ℕ} 0 1 = cc in omega arith
@@ -30,23 +32,6 @@ unfolding over
 over_append xs ys z =
     append_assoc xs ys (drop (length (xs ++ ys)) z)
     ∙ ap (λ (l : List ℕ). xs ++ (ys ++ l)) (ap (λ (n : ℕ). drop n z) (length-append xs ys) ∙ sym (drop-drop (length ys) (length xs) z))
-
-pub put_length : {xs out out' : List ℕ} {k n : ℕ} → Room xs out k → Puts xs out k out' n → length out' ≡ length out
-unfolding over
-put_length {xs} {out} {out'} {k} {n} h p =
-    ap length p.same
-    ∙ length-append (take k out) (xs ++ drop (length xs) (drop k out))
-    ∙ omega (arith, h.room, length-take k out, length-append xs (drop (length xs) (drop k out)), length-drop (length xs) (drop k out), length-drop k out)
-
-pub put_none : (out : List ℕ) (k : ℕ) → Puts [] out k out k
-unfolding over
-put_none out k = record { next = omega arith; same = sym (take-append-drop k out) }
-
-pub room_front : (xs ys : List ℕ) {out : List ℕ} {k : ℕ} → Room (xs ++ ys) out k → Room xs out k
-room_front xs ys h = record { room = omega (arith, h.room, length-append xs ys) }
-
-pub room_behind : (xs ys : List ℕ) {out out' : List ℕ} {k n : ℕ} → Room (xs ++ ys) out k → Puts xs out k out' n → Room ys out' n
-room_behind xs ys h p = record { room = omega (arith, h.room, length-append xs ys, put_length (room_front xs ys h) p, p.next) }
 
 pub put_both : (xs ys : List ℕ) {out out' out'' : List ℕ} {k n m : ℕ} → Room (xs ++ ys) out k → Puts xs out k out' n → Puts ys out' n out'' m → Puts (xs ++ ys) out k out'' m
 unfolding over
@@ -65,38 +50,22 @@ put_both xs ys {out} {out'} {out''} {k} {n} {m} h p q =
           ∙ ap (λ (t : List ℕ). take k out ++ t) (sym (over_append xs ys (drop k out)));
     }
 
--- Of all the bytes that go into a slice at k₀, these are left, at k.
-pub record Left (rest out : List ℕ) (k : ℕ) (all out₀ : List ℕ) (k₀ : ℕ) : Type 0 where
-  pub room : Room rest out k
-  pub ends : (out' : List ℕ) (n : ℕ) → Puts rest out k out' n → Puts all out₀ k₀ out' n
-
-pub start : {all out : List ℕ} {k : ℕ} → Room all out k → Left all out k all out k
-start h = record { room = h; ends = λ out' n p. p }
-
--- the same bytes in other words
-pub as_bytes : {xs ys out all out₀ : List ℕ} {k k₀ : ℕ} → xs ≡ ys → Left xs out k all out₀ k₀ → Left ys out k all out₀ k₀
-as_bytes {xs} {ys} {out} {all} {out₀} {k} {k₀} e l = subst (λ (zs : List ℕ). Left zs out k all out₀ k₀) e l
-
-pub starts : {all xs out : List ℕ} {k : ℕ} → all ≡ xs → Room all out k → Left xs out k all out k
-starts e h = as_bytes e (start h)
-
-pub fits : (xs ys : List ℕ) {out all out₀ : List ℕ} {k k₀ : ℕ} → Left (xs ++ ys) out k all out₀ k₀ → Room xs out k
-fits xs ys l = room_front xs ys l.room
-
-pub step : {xs ys out out' all out₀ : List ℕ} {k n k₀ : ℕ} → Left (xs ++ ys) out k all out₀ k₀ → Puts xs out k out' n → Left ys out' n all out₀ k₀
-step {xs} {ys} l p = record { room = room_behind xs ys l.room p; ends = λ out'' m q. l.ends out'' m (put_both xs ys l.room p q) }
-
-pub end : {xs out out' all out₀ : List ℕ} {k n k₀ : ℕ} → Left xs out k all out₀ k₀ → Puts xs out k out' n → Puts all out₀ k₀ out' n
-end {xs} {out} {out'} {all} {out₀} {k} {n} l p = l.ends out' n p
-
-pub ended : {out all out₀ : List ℕ} {k k₀ : ℕ} → Left [] out k all out₀ k₀ → Puts all out₀ k₀ out k
-ended {out} {all} {out₀} {k} l = l.ends out k (put_none out k)
-
 -- ---- numbers
 
-pub four_big : (n : ℕ) → bytes_of big 4 n ≡ n / 16777216 % 256 ∷ n / 65536 % 256 ∷ n / 256 % 256 ∷ n % 256 ∷ []
+cons₄ : {a a' b b' c c' d d' : ℕ} → a ≡ a' → b ≡ b' → c ≡ c' → d ≡ d' → ◌≡◌ {A = List ℕ} (a ∷ b ∷ c ∷ d ∷ []) (a' ∷ b' ∷ c' ∷ d' ∷ [])
+cons₄ p q r s = cc
+
+pub two_little : (n : ℕ) → bytes_of little 2 n ≡ to_le_bytes w16 n
 unfolding bytes_of
-four_big n = ap (λ (b : ℕ). n / 16777216 % 256 ∷ n / 65536 % 256 ∷ n / 256 % 256 ∷ b ∷ []) (omega arith)
+two_little n = refl
+
+pub four_little : (n : ℕ) → bytes_of little 4 n ≡ to_le_bytes w32 n
+unfolding bytes_of
+four_little n = cons₄ refl refl (omega arith) (omega arith)
+
+pub four_big : (n : ℕ) → bytes_of big 4 n ≡ to_be_bytes w32 n
+unfolding bytes_of
+four_big n = cons₄ refl refl refl (omega arith)
 
 cons₈ : {a a' b b' c c' d d' e e' f f' g g' i i' : ℕ} → a ≡ a' → b ≡ b' → c ≡ c' → d ≡ d' → e ≡ e' → f ≡ f' → g ≡ g' → i ≡ i'
     → ◌≡◌ {A = List ℕ} (a ∷ b ∷ c ∷ d ∷ e ∷ f ∷ g ∷ i ∷ []) (a' ∷ b' ∷ c' ∷ d' ∷ e' ∷ f' ∷ g' ∷ i' ∷ [])
@@ -145,32 +114,10 @@ pub body_bytes_lem : (source : List ℕ) (at n : ℕ) → at + n ≤ length sour
 unfolding body_bytes
 body_bytes_lem source at n h = ap (λ (m : ℕ). compact_bytes m ++ body source at n) (body_length_lem source at n h)
 
-pub body_cons : (source : List ℕ) (at n i : ℕ) → at + n ≤ length source → i < n → drop i (body source at n) ≡ get_or source (at + i) 0 ∷ drop (i + 1) (body source at n)
+-- as the code lends it
+pub body_lent : (source : List ℕ) (at n : ℕ) → body source at n ≡ take (at + n - at) (drop at source)
 unfolding body
-body_cons source at n i h less =
-    drop-cons (take n (drop at source)) i 0 (omega (arith, body_length_lem source at n h))
-    ∙ ap₂ (λ (a : ℕ) (j : ℕ). a ∷ drop j (take n (drop at source))) (get_or-take n (drop at source) i 0 less ∙ get_or-drop at source i 0) (sym (add-one i))
-
-pub part_starts : {out : List ℕ} {k : ℕ} (bytes : List ℕ) → Room bytes out k → Left bytes out (k + 0) bytes out k
-part_starts {out} {k} bytes h = subst (λ (j : ℕ). Left bytes out j bytes out k) (omega arith) (start h)
-
-pub part_room : {out all out₀ : List ℕ} {k₀ : ℕ} (source : List ℕ) (at n k i : ℕ) → at + n ≤ length source → i ≤ n → Left (drop i (body source at n)) out (k + i) all out₀ k₀ → k + n ≤ length out
-part_room source at n k i h le l = omega (arith, l.room.room, length-drop i (body source at n), body_length_lem source at n h)
-
--- one byte more
-pub part_turn : {out out₀ : List ℕ} (source : List ℕ) (at n k i : ℕ) → at + n ≤ length source → i < n → Left (drop i (body source at n)) out (k + i) (body source at n) out₀ k
-    → Left (drop (i + 1) (body source at n)) (set out (k + i) (get_or source (at + i) 0)) (k + (i + 1)) (body source at n) out₀ k
-part_turn {out} {out₀} source at n k i h less l =
-    let b : ℕ = get_or source (at + i) 0 in
-    let behind : List ℕ = drop (i + 1) (body source at n) in
-    let l' : Left ((b ∷ []) ++ behind) out (k + i) (body source at n) out₀ k = as_bytes (body_cons source at n i h less) l in
-    subst (λ (j : ℕ). Left behind (set out (k + i) b) j (body source at n) out₀ k) (omega arith) (step l' (put_byte b out (k + i) (fits (b ∷ []) behind l')))
-
-pub part_ends : {out out₀ : List ℕ} (source : List ℕ) (at n k i : ℕ) → at + n ≤ length source → i ≡ n → Left (drop i (body source at n)) out (k + i) (body source at n) out₀ k → Puts (body source at n) out₀ k out (k + n)
-part_ends {out} {out₀} source at n k i h e l =
-    let past : length (body source at n) ≤ i = omega (arith, body_length_lem source at n h) in
-    let none : drop i (body source at n) ≡ [] = drop_of_length-le (body source at n) past in
-    subst (λ (j : ℕ). Puts (body source at n) out₀ k out (k + j)) e (ended (as_bytes none l))
+body_lent source at n = let e : n ≡ at + n - at = omega arith in ap (λ (m : ℕ). take m (drop at source)) e
 
 -- ---- values and tokens: the prefix, and what is behind it
 
@@ -219,12 +166,6 @@ issuance_parts source r w =
 pub issuance_some : (source r : List ℕ) (w : ℕ) → 2 ≤ r ! 2 → w ≡ value_width (r ! 7) → issuance_bytes (issuance_in source r) ≡ issuance_parts source r w
 unfolding issuance_bytes
 issuance_some source r w h e = rw (le-leb 2 (r ! 2) h) (ap (λ (v : ℕ). issuance_parts source r v) (sym e))
-
-pub width_small : (prefix : ℕ) → value_width prefix ≤ 33
-width_small prefix = by_cases (eqb prefix 0) (λ t. rw t (omega arith)) (λ t. by_cases (eqb prefix 1) (λ u. rw (t, u) (omega arith)) (λ u. rw (t, u) (omega arith)))
-
-pub keys_ready : (there : ℕ) (r : List ℕ) (w : ℕ) → w ≡ value_width (r ! 7) → IssuanceLies there r → Prefixed 2 there (r ! 6 + 64 + w) (r ! 10)
-keys_ready there r w e h = subst (λ (v : ℕ). Prefixed 2 there (r ! 6 + 64 + v) (r ! 10)) (sym e) h.keys
 
 raw_vout_lem : (vout flags : ℕ) → flags ≤ 3 → confused vout flags ≡ false → bit_or vout (flags * 2 ^ 30 % 2 ^ 32) ≡ raw_vout vout flags
 unfolding confused

@@ -8,6 +8,7 @@ use mathlib.Core.Option.{none, some}
 use native.Mathlib.Nat.{zero-add, add_assoc}
 use native.Mathlib.Omega.{arith}
 use lib.Dec.{leb, eqb}
+use Rattle.std.specs.List.{fold}
 use lib.ListN.{length, take, drop, length-append, length-take, length-drop, length-map, take-append-drop, drop_of_length-le}
 use lib.Seq.{drop-drop}
 use borrow.Author.Tests.{leb-true, le-leb, lt-leb, eqb-true, eqb-false, eq-eqb, ne_eqb}
@@ -17,12 +18,11 @@ use Rattle.layout.specs.Transaction.{Head, limit}
 use Rattle.layout.specs.Outcome.{Tables}
 use Rattle.layout.specs.Contents.{Contents, compact_bytes, flat, body_bytes, list_bytes, value_bytes, token_bytes, issuance_bytes, input_bytes, output_bytes, input_witness_bytes, output_witness_bytes, witnesses_bytes, contents_bytes}
 use Rattle.layout.specs.Records.{sum}
-use Rattle.layout.specs.Writing.{records, body, value_of, token_of, issuance_of, issues, input_of, output_of, item_of, input_witness_of, output_witness_of, witnesses_of, contents_of, input_records, output_records, item_records, Fault, passes, ◌also◌, unless, value_width, issuance_rule, input_witness_rule, input_rule, token_rule, output_witness_rule, output_rule, item_rule, input_fault, input_faults, rule_faults, record_items, held, table_faults, written_bytes, faults, written_length, zeros₇, ◌!◌}
-use Rattle.encoders.specs.declared.Written.{Written}
-use Rattle.encoders.specs.declared.Written.TheVariants.{Done, Refused}
-use Rattle.encoders.specs.Answers.{answer, told}
-use Rattle.encoders.specs.Needs.{Held, Measures, capped, compact_width, body_width, token_width, issuance_width, input_width, output_width, input_witness_width, output_witness_width, item_width, whole_input, whole_output, written_width}
-use Rattle.encoders.proofs.Judging.{row, left, left_all, left_none, left_more, says, width_small, passes_rule, passes_witness, answer_fault, passed, handed, held_records, also_first, also_second, unless_passes}
+use Rattle.layout.specs.Writing.{records, body, value_of, token_of, issuance_of, issues, input_of, output_of, item_of, input_witness_of, output_witness_of, witnesses_of, contents_of, input_records, output_records, item_records, Fault, passes, fault, ◌also◌, unless, value_width, issuance_rule, input_witness_rule, input_rule, token_rule, output_witness_rule, output_rule, item_rule, input_fault, input_faults, rule_faults, record_items, held, table_faults, written_bytes, faults, wrote, unwritten, verdict, written_length, zeros₇, ◌!◌}
+use Rattle.encoders.specs.declared.table.Transaction.{Transaction}
+use Rattle.encoders.specs.Answers.{head_numbers}
+use Rattle.encoders.specs.Needs.{Counted, Measures, capped, compact_width, body_width, token_width, issuance_width, input_width, output_width, input_witness_width, output_witness_width, item_width, whole_input, whole_output, written_width}
+use Rattle.encoders.proofs.Judging.{says, width_small, passes_rule, passes_witness, records_length, also_first, also_second, unless_passes}
 
 -- ---- one record's widths
 
@@ -72,31 +72,18 @@ output_alone r {flag} h m = record { same = rw (ne_eqb flag 1 h, m.same); small 
 
 -- ---- sums that stop above the limit
 
--- Summing what is left from here is summing all from the start.
-pub record Summing (f : List ℕ → ℕ) (w n : ℕ) (t : List ℕ) (s i : ℕ) : Type 0 where
-  pub at : i ≤ n
-  pub low : s ≤ 4000001
-  pub same : capped (s + sum f (left w n i t)) ≡ capped (sum f (records w n t))
+pub capped_sum : (f : List ℕ → ℕ) (a : ℕ) (rs : List (List ℕ)) → a ≤ 4000001 → fold (λ s r. capped (s + f r)) a rs ≡ capped (a + sum f rs)
+unfolding sum
+capped_sum f a [] h = omega arith
+capped_sum f a (r ∷ rs) h = let more = capped_sum f (capped (a + f r)) rs (omega arith) in omega (arith, more)
 
-module _ {f : List ℕ → ℕ} {w n : ℕ} {t : List ℕ} where
-  pub summing_first : Summing f w n t 0 0
-  summing_first = record { at = omega arith; low = omega arith; same = ap capped (zero-add (sum f (left w n 0 t)) ∙ ap (sum f) (left_all w n t)) }
-
-  pub summing_last : {s i : ℕ} → Summing f w n t s i → n ≤ i → s ≡ capped (sum f (records w n t))
-  unfolding sum
-  summing_last {s} {i} j h = let e : sum f (left w n i t) ≡ 0 = ap (sum f) (left_none w n i t h) in omega (arith, j.same, j.low, e)
-
-  pub summing_next : {s i : ℕ} → Summing f w n t s i → i < n → {r : List ℕ} → r ≡ row w i t → {m : ℕ} → Measures (2 ^ 36) m (f r) → {s' : ℕ} → s' ≡ capped (s + m) → Summing f w n t s' (i + 1)
-  unfolding sum
-  summing_next {s} {i} j h e {m} d {s'} c =
-      let eₘ : m ≡ f (row w i t) = d.same ∙ ap f e in
-      let l : sum f (left w n i t) ≡ f (row w i t) + sum f (left w n (i + 1) t) = ap (sum f) (left_more w n i t h) in
-      record { at = omega arith; low = omega (arith, c); same = omega (arith, j.same, eₘ, l, c) }
+pub capped_all : (f : List ℕ → ℕ) (rs : List (List ℕ)) → fold (λ s r. capped (s + f r)) 0 rs ≡ capped (sum f rs)
+capped_all f rs = capped_sum f 0 rs (omega arith) ∙ ap capped (zero-add (sum f rs))
 
 -- the whole, from its parts
-pub written_is : (h : Head) (t : Tables) {c₁ a c₂ b d r : ℕ} → Measures 10 c₁ (compact_width h.inputs) → a ≡ capped (sum (whole_input h.flag) (input_records h t)) → Measures 10 c₂ (compact_width h.outputs) → b ≡ capped (sum (whole_output h.flag) (output_records h t)) → d ≡ capped (sum item_width (item_records h t)) → r ≡ capped (9 + c₁ + a + c₂ + b + d) → r ≡ capped (written_width h t)
+pub written_is : (h : Head) (is os ts : List (List ℕ)) {c₁ a c₂ b d r : ℕ} → Measures 10 c₁ (compact_width h.inputs) → a ≡ capped (sum (whole_input h.flag) is) → Measures 10 c₂ (compact_width h.outputs) → b ≡ capped (sum (whole_output h.flag) os) → d ≡ capped (sum item_width ts) → r ≡ capped (9 + c₁ + a + c₂ + b + d) → r ≡ capped (written_width h is os ts)
 unfolding written_width
-written_is h t m e m' e' e'' c = omega (arith, m.same, e, m'.same, e', e'', c)
+written_is h is os ts m e m' e' e'' c = omega (arith, m.same, e, m'.same, e', e'', c)
 
 -- ---- lengths of what is written
 
@@ -264,11 +251,6 @@ module _ (source : List ℕ) (flag : ℕ) where
       let q = simp says at (rw e at (passes_witness flag (length source) first i r (also_first f g h))) in
       omega (arith, q, no_items e (first + record_items r) (suc i) rs (also_second f g h))
 
-records_length : (w n : ℕ) (t : List ℕ) → length (records w n t) ≡ n
-unfolding records
-records_length w zero t = refl
-records_length w (suc n) t = ap suc (records_length w n (drop w t))
-
 list_length : {X : Type 0} (bytes : X → List ℕ) (of : List ℕ → X) (w n : ℕ) (t : List ℕ) → length (list_bytes bytes (map of (records w n t))) ≡ compact_width n + length (flat bytes (map of (records w n t)))
 unfolding list_bytes
 list_length bytes of w n t =
@@ -350,7 +332,7 @@ module _ (h : Head) (t : Tables) (source : List ℕ) (f : Fine h t (length sourc
       let z : h.items ≡ 0 = sym f.total ∙ no_items source h.flag e 0 0 (input_records h t) f.inputs in
       ap (λ (n : ℕ). sum item_width (records 2 n t.items)) z
 
-  pub written_length_lem : length (written_bytes h t source) ≡ written_width h t
+  pub written_length_lem : length (written_bytes h t source) ≡ written_width h (input_records h t) (output_records h t) (item_records h t)
   unfolding contents_of written_width witnesses_bytes
   written_length_lem =
       contents_length (contents_of h t source)
@@ -360,49 +342,34 @@ module _ (h : Head) (t : Tables) (source : List ℕ) (f : Fine h t (length sourc
 
 -- ---- the verdict
 
+-- a length of the counted records is that of the tables
+pub counted_width : {h : Head} {t : Tables} {x : Transaction} → Counted h t x → written_width (head_numbers x.head) x.inputs.now x.outputs.now x.items.now ≡ written_width h (input_records h t) (output_records h t) (item_records h t)
+counted_width k = λ i. written_width (k.head i) (k.inputs i) (k.outputs i) (k.items i)
+
 module _ (h : Head) (t : Tables) (source : List ℕ) where
   abbrev bytes : ℕ
   bytes = length (written_bytes h t source)
 
-  pub judged : {w : Written} → w ≡ answer (table_faults h t (length source)) 0 → {k : ℕ} → w ≡ Done k → table_faults h t (length source) ≡ passes
-  judged {w} a {k} b = passed (table_faults h t (length source)) 0 k w a b
+  abbrev width : ℕ
+  width = written_width h (input_records h t) (output_records h t) (item_records h t)
 
-  pub judged_held : {w : Written} → w ≡ answer (table_faults h t (length source)) 0 → {k : ℕ} → w ≡ Done k → Held h t
-  judged_held a b = held_records h t (fine h t (length source) (judged a b)).held
-
-  pub faulty : {w : Written} → w ≡ answer (table_faults h t (length source)) 0 → {number place : ℕ} → w ≡ Refused number place → w ≡ told (written_length h t source)
+  pub faulty : {n p : ℕ} → table_faults h t (length source) ≡ fault n p → unwritten n p ≡ written_length h t source
   unfolding written_length faults
-  faulty {w} a {number} {place} b = answer_fault (table_faults h t (length source)) (unless (leb bytes limit) 2 0) 0 bytes number place w a b
+  faulty e = sym (ap (λ (f : Fault). verdict (f also unless (leb bytes limit) 2 0) bytes) e)
 
-  faultless : table_faults h t (length source) ≡ passes → answer (unless (leb bytes limit) 2 0) bytes ≡ told (written_length h t source)
+  faultless : table_faults h t (length source) ≡ passes → verdict (unless (leb bytes limit) 2 0) bytes ≡ written_length h t source
   unfolding written_length faults
-  faultless p = sym (ap (λ (f : Fault). answer (f also unless (leb bytes limit) 2 0) bytes) p)
+  faultless p = sym (ap (λ (f : Fault). verdict (f also unless (leb bytes limit) 2 0) bytes) p)
 
-  pub too_long_lem : table_faults h t (length source) ≡ passes → {n : ℕ} → n ≡ capped (written_width h t) → 4000000 < n → Refused 2 0 ≡ told (written_length h t source)
+  pub too_long_lem : table_faults h t (length source) ≡ passes → {n : ℕ} → n ≡ capped width → 4000000 < n → unwritten 2 0 ≡ written_length h t source
   too_long_lem p {n} e l =
       let same = written_length_lem h t source (fine h t (length source) p) in
       let long : limit < bytes = omega (arith, same, e, l) in
-      sym (ap (λ (b : Bool). answer (unless b 2 0) bytes) (lt-leb bytes limit long)) ∙ faultless p
+      sym (ap (λ (b : Bool). verdict (unless b 2 0) bytes) (lt-leb bytes limit long)) ∙ faultless p
 
-  pub fits : table_faults h t (length source) ≡ passes → {n : ℕ} → n ≡ capped (written_width h t) → n ≤ 4000000 → Done n ≡ told (written_length h t source)
+  pub fits : table_faults h t (length source) ≡ passes → {n : ℕ} → n ≡ capped width → n ≤ 4000000 → wrote n ≡ written_length h t source
   fits p {n} e l =
       let same = written_length_lem h t source (fine h t (length source) p) in
       let is : n ≡ bytes = omega (arith, same, e, l) in
       let short : bytes ≤ limit = omega (arith, is, l) in
-      ap (λ (k : ℕ). Done k) is ∙ sym (ap (λ (b : Bool). answer (unless b 2 0) bytes) (le-leb bytes limit short)) ∙ faultless p
-
--- What a done verdict says, for whoever writes after it.
-pub record Sound (h : Head) (t : Tables) (source : List ℕ) (n : ℕ) : Type 0 where
-  pub judged : table_faults h t (length source) ≡ passes
-  pub faults : faults h t source ≡ passes
-  pub length : n ≡ length (written_bytes h t source)
-  pub within : n ≤ limit
-
-pub done_sound : (h : Head) (t : Tables) (source : List ℕ) {w : Written} → w ≡ told (written_length h t source) → {n : ℕ} → w ≡ Done n → Sound h t source n
-unfolding written_length faults
-done_sound h t source {w} a {n} b =
-    let m = length (written_bytes h t source) in
-    let p : (table_faults h t (length source) also unless (leb m limit) 2 0) ≡ passes = passed (table_faults h t (length source) also unless (leb m limit) 2 0) m n w a b in
-    let e : n ≡ m = handed (table_faults h t (length source) also unless (leb m limit) 2 0) m n w a b in
-    let s = leb-true m limit (unless_passes (leb m limit) 2 0 (also_second (table_faults h t (length source)) (unless (leb m limit) 2 0) p)) in
-    record { judged = also_first (table_faults h t (length source)) (unless (leb m limit) 2 0) p; faults = p; length = e; within = omega (arith, e, s) }
+      ap (λ (k : ℕ). wrote k) is ∙ sym (ap (λ (b : Bool). verdict (unless b 2 0) bytes) (le-leb bytes limit short)) ∙ faultless p

@@ -1,25 +1,58 @@
 -- What private functions need of each other: nothing public cites it, and no promise depends on it.
-use Rattle.std.specs.Prelude.{ℕ, ◌+◌, ◌*◌, ◌<◌, ◌≤◌, min, ◌≡◌, cond, not, ◌&&◌, List, leb, eqb, length}
+use Rattle.std.specs.Prelude.{ℕ, ◌+◌, ◌<◌, min, ◌≡◌, true, false, cond, not, ◌&&◌, List, leb, eqb, length, Option, Some, None, Result, MatchResult}
 use Rattle.layout.specs.Transaction.{Head}
 use Rattle.layout.specs.Outcome.{Tables}
 use Rattle.layout.specs.Contents.{all}
 use Rattle.layout.specs.Records.{sum}
-use Rattle.layout.specs.Writing.{Fault, ◌also◌, unless, input_faults, rule_faults, output_rule, item_rule, input_records, output_records, item_records, record_items, empty_input, empty_output, issues, value_width, ◌!◌}
+use Rattle.layout.specs.Writing.{Fault, passes, fault, wrote, unwritten, written_length, ◌also◌, unless, held, input_faults, rule_faults, output_rule, item_rule, input_records, output_records, item_records, record_items, empty_input, empty_output, issues, value_width, ◌!◌}
+use Rattle.encode.specs.declared.refusal.Refusal.{Refusal}
+use Rattle.encode.specs.Refusal.{number_of}
+use Rattle.encoders.specs.declared.table.Transaction.{Transaction}
+use Rattle.encoders.specs.Answers.{head_numbers}
 
--- The counts' records lie in the tables.
-pub record Held (h : Head) (t : Tables) : Type 0 where
-  pub inputs : 20 * h.inputs ≤ length t.inputs
-  pub outputs : 14 * h.outputs ≤ length t.outputs
-  pub items : 2 * h.items ≤ length t.items
+-- The records that the head counts, in tables that hold them.
+pub record Counted (h : Head) (t : Tables) (x : Transaction) : Type 0 where
+  pub held : held h t ≡ true
+  pub head : head_numbers x.head ≡ h
+  pub inputs : x.inputs.now ≡ input_records h t
+  pub outputs : x.outputs.now ≡ output_records h t
+  pub items : x.items.now ≡ item_records h t
 
--- table_faults behind 10 and 7
-unfoldable pub record_faults : Head → Tables → ℕ → Fault
-record_faults h t there =
-    input_faults h.flag there 0 0 (input_records h t)
-    also rule_faults (output_rule h.flag there) 0 (output_records h t)
-    also rule_faults (item_rule h.flag there) 0 (item_records h t)
-    also unless (eqb (sum record_items (input_records h t)) h.items) 13 h.inputs
-    also unless (not (eqb h.flag 1 && all empty_input (input_records h t) && all empty_output (output_records h t))) 8 4
+-- 10 comes of tables that don't.
+pub record Exceeded (h : Head) (t : Tables) (r : Refusal) : Type 0 where
+  pub exceeded : held h t ≡ false
+  pub told : fault (number_of r.kind) r.place ≡ fault 10 0
+
+abbrev pub Lent : Head → Tables → Result Transaction Refusal → Type 0
+Lent h t r = MatchResult r (Counted h t) (Exceeded h t)
+
+-- Counted records that pass, with their written length.
+pub record Passed (h : Head) (t : Tables) (source : List ℕ) (x : Transaction) (n : ℕ) : Type 0 where
+  pub counted : Counted h t x
+  pub told : wrote n ≡ written_length h t source
+
+-- the first fault but 14
+pub record Faulted (h : Head) (t : Tables) (source : List ℕ) (r : Refusal) : Type 0 where
+  pub told : unwritten (number_of r.kind) r.place ≡ written_length h t source
+
+-- what pass 1 answers
+abbrev pub Judged : Head → Tables → List ℕ → Result (Transaction × ℕ) Refusal → Type 0
+Judged h t source r = MatchResult r (λ p. Passed h t source p.0 p.1) (Faulted h t source)
+
+-- table_faults behind 10, of the counted records
+unfoldable pub record_faults : ℕ → List (List ℕ) → List (List ℕ) → List (List ℕ) → ℕ → Fault
+record_faults flag ins outs its there =
+    unless (leb flag 1) 7 4
+    also input_faults flag there 0 0 ins
+    also rule_faults (output_rule flag there) 0 outs
+    also rule_faults (item_rule flag there) 0 its
+    also unless (eqb (sum record_items ins) (length its)) 13 (length ins)
+    also unless (not (eqb flag 1 && all empty_input ins && all empty_output outs)) 8 4
+
+-- 13 at a record, if there is one
+abbrev pub broken : Option ℕ → Fault
+broken None = passes
+broken (Some i) = fault 13 i
 
 -- ---- widths, from a record's numbers
 
@@ -60,14 +93,14 @@ unfoldable pub whole_output : ℕ → List ℕ → ℕ
 whole_output flag r = cond (eqb flag 1) (output_width r + output_witness_width r) (output_width r)
 
 -- Version, flag and locktime have 9 bytes. With flag 0 there are no items.
-unfoldable pub written_width : Head → Tables → ℕ
-written_width h t =
+unfoldable pub written_width : Head → List (List ℕ) → List (List ℕ) → List (List ℕ) → ℕ
+written_width h ins outs its =
     9
     + compact_width h.inputs
-    + sum (whole_input h.flag) (input_records h t)
+    + sum (whole_input h.flag) ins
     + compact_width h.outputs
-    + sum (whole_output h.flag) (output_records h t)
-    + sum item_width (item_records h t)
+    + sum (whole_output h.flag) outs
+    + sum item_width its
 
 -- The length stops growing above the limit.
 abbrev pub capped : ℕ → ℕ

@@ -1,21 +1,15 @@
 // Judging: the rules that a record must keep, and the faults in 01's order. A record is lent as its numbers.
-ghost use Rattle.std.specs.Prelude.{◌≡◌, true, ◌&&◌, ◌+◌, ◌*◌, ◌/◌, ◌≤◌, leb, eqb, length};
+ghost use Rattle.std.specs.Prelude.{◌≡◌, ◌&&◌, ◌+◌, ◌^◌, ◌<◌, eqb, IfOk};
+ghost use Rattle.std.specs.List.{list_all};
 ghost use Rattle.layout.specs.Transaction.{asset_prefix, nonce_prefix};
 ghost use Rattle.layout.specs.Contents.{confused, all};
 ghost use Rattle.layout.specs.Records.{sum};
-ghost use Rattle.layout.specs.Writing.{records, lies, value_rule, value_width, issuance_rule, zeros₄, zeros₇, issues, input_witness_rule, input_rule, token_rule, output_witness_rule, output_rule, item_rule, null_issuance, input_fault, input_faults, rule_faults, record_items, empty_input, empty_output, held, table_faults};
-ghost use Rattle.decoders.specs.Feeding.{tables};
-ghost use Rattle.encoders.specs.Answers.{answer, head_numbers};
-ghost use Rattle.encoders.specs.Needs.{Held, record_faults};
+ghost use Rattle.layout.specs.Writing.{lies, value_rule, value_width, issuance_rule, input_witness_rule, input_rule, token_rule, output_witness_rule, output_rule, item_rule, null_issuance, input_fault, input_faults, rule_faults, record_items, empty_input, empty_output, verdict};
+ghost use Rattle.encoders.specs.Answers.{told, faulted};
+ghost use Rattle.encoders.specs.Needs.{record_faults, broken};
 
-use crate::Written;
-use decoders::{Head, TransactionDecoder};
-
-pub(crate) fn wide(x: u32) -> usize
-    ensures { result ≡ x }
-{
-    x as usize
-}
+use crate::table::{InputRow, ItemRow, OutputRow, Transaction};
+use encode::{Refusal, RefusalKind};
 
 // ---- 13: each rule is its definition
 
@@ -32,7 +26,7 @@ pub(crate) fn value_rule(prefix: u32, high: u32, low: u32) -> bool
     (prefix == 1) | (((prefix == 0) | (prefix == 8) | (prefix == 9)) & (high == 0) & (low == 0))
 }
 
-// A value's 1, 9 or 33 bytes.
+// A value's 1, 9 or 33 bytes, whatever the prefix; `confidential`'s width is 0 where a prefix is not listed, and 01's `value_width` is 33 there.
 pub(crate) fn value_width(prefix: u32) -> usize
     ensures { result ≡ value_width prefix }
 {
@@ -43,30 +37,22 @@ pub(crate) fn value_width(prefix: u32) -> usize
     }
 }
 
-pub(crate) fn zeros4(r: &[u32], c: usize) -> bool
-    requires { c + 4 ≤ length r.now }
-    ensures { result ≡ zeros₄ r.now c }
+// A field that is not there has 0.
+pub(crate) fn zeros(numbers: &[u32]) -> bool
+    ensures { result ≡ list_all (λ n. eqb n 0) numbers.now }
 {
-    (r[c] == 0) & (r[c + 1] == 0) & (r[c + 2] == 0) & (r[c + 3] == 0)
-}
-
-pub(crate) fn zeros7(r: &[u32], c: usize) -> bool
-    requires { c + 7 ≤ length r.now }
-    ensures { result ≡ zeros₇ r.now c }
-{
-    zeros4(r, c) & (r[c + 4] == 0) & (r[c + 5] == 0) & (r[c + 6] == 0)
+    numbers.iter().all(|n| *n == 0)
 }
 
 // In an issuance, keys stand after the amount's bytes.
 pub(crate) fn issuance_lies(there: usize, at: u32, amount: u32, keys: u32) -> bool
     ensures { result ≡ lies there (at + 64 + value_width amount) (value_width keys) }
 {
-    wide(at) + 64 + value_width(amount) + value_width(keys) <= there
+    at as usize + 64 + value_width(amount) + value_width(keys) <= there
 }
 
 // The whole field must lie in the source.
-pub(crate) fn issuance_rule(there: usize, r: &[u32]) -> bool
-    requires { length r.now ≡ 20 }
+pub(crate) fn issuance_rule(there: usize, r: &InputRow) -> bool
     ensures { result ≡ issuance_rule there r.now }
 {
     if 2 <= r[2] {
@@ -74,22 +60,20 @@ pub(crate) fn issuance_rule(there: usize, r: &[u32]) -> bool
             & value_rule(r[7], r[8], r[9])
             & value_rule(r[10], r[11], r[12]);
     }
-    zeros7(r, 6)
+    zeros(&r[6..13])
 }
 
 // The first item's index is the sum of earlier items. With flag 0 all witness numbers are 0.
-pub(crate) fn input_witness_rule(flag: u32, there: usize, first: usize, r: &[u32]) -> bool
-    requires { length r.now ≡ 20 }
+pub(crate) fn input_witness_rule(flag: u32, there: usize, first: usize, r: &InputRow) -> bool
     ensures { result ≡ input_witness_rule flag there first r.now }
 {
     if flag == 1 {
-        return lies(there, r[13], r[14]) & lies(there, r[15], r[16]) & (wide(r[17]) == first);
+        return lies(there, r[13], r[14]) & lies(there, r[15], r[16]) & (r[17] as usize == first);
     }
-    zeros7(r, 13)
+    zeros(&r[13..20])
 }
 
-pub(crate) fn input_rule(flag: u32, there: usize, first: usize, r: &[u32]) -> bool
-    requires { length r.now ≡ 20 }
+pub(crate) fn input_rule(flag: u32, there: usize, first: usize, r: &InputRow) -> bool
     ensures { result ≡ input_rule flag there first r.now }
 {
     lies(there, r[0], 32)
@@ -99,7 +83,8 @@ pub(crate) fn input_rule(flag: u32, there: usize, first: usize, r: &[u32]) -> bo
         & input_witness_rule(flag, there, first, r)
 }
 
-// Positions of null fields and of an output's explicit value are not read.
+// Positions of null fields and of an output's explicit value are not read. The prefixes stand here, and not as `confidential`'s, until 02's
+// request T-05, which makes them one decision over the prefix for each kind.
 pub(crate) fn asset_rule(there: usize, at: u32, prefix: u32) -> bool
     ensures { result ≡ token_rule asset_prefix there at prefix }
 {
@@ -112,18 +97,16 @@ pub(crate) fn nonce_rule(there: usize, at: u32, prefix: u32) -> bool
     (prefix == 0) | (((prefix == 1) | (prefix == 2) | (prefix == 3)) & lies(there, at, 33))
 }
 
-pub(crate) fn output_witness_rule(flag: u32, there: usize, r: &[u32]) -> bool
-    requires { length r.now ≡ 14 }
+pub(crate) fn output_witness_rule(flag: u32, there: usize, r: &OutputRow) -> bool
     ensures { result ≡ output_witness_rule flag there r.now }
 {
     if flag == 1 {
         return lies(there, r[10], r[11]) & lies(there, r[12], r[13]);
     }
-    zeros4(r, 10)
+    zeros(&r[10..14])
 }
 
-pub(crate) fn output_rule(flag: u32, there: usize, r: &[u32]) -> bool
-    requires { length r.now ≡ 14 }
+pub(crate) fn output_rule(flag: u32, there: usize, r: &OutputRow) -> bool
     ensures { result ≡ output_rule flag there r.now }
 {
     asset_rule(there, r[1], r[0])
@@ -134,8 +117,7 @@ pub(crate) fn output_rule(flag: u32, there: usize, r: &[u32]) -> bool
         & output_witness_rule(flag, there, r)
 }
 
-pub(crate) fn item_rule(flag: u32, there: usize, r: &[u32]) -> bool
-    requires { length r.now ≡ 2 }
+pub(crate) fn item_rule(flag: u32, there: usize, r: &ItemRow) -> bool
     ensures { result ≡ item_rule flag there r.now }
 {
     if flag == 1 {
@@ -155,212 +137,123 @@ pub(crate) fn confused(vout: u32, flags: u32) -> bool
         | ((vout == 1_073_741_823) & (flags == 3))
 }
 
-pub(crate) fn null_issuance(r: &[u32]) -> bool
-    requires { length r.now ≡ 20 }
+pub(crate) fn null_issuance(r: &InputRow) -> bool
     ensures { result ≡ null_issuance r.now }
 {
     (2 <= r[2]) & (r[7] == 0) & (r[10] == 0)
 }
 
 // 13 before 12 before 6. A record that passes hands on its items.
-pub(crate) fn input_fault(flag: u32, there: usize, first: usize, i: usize, r: &[u32]) -> Written
-    requires { length r.now ≡ 20 }
-    ensures { result ≡ answer (input_fault flag there first i r.now) (record_items r.now) }
+pub(crate) fn input_fault(
+    flag: u32,
+    there: usize,
+    first: usize,
+    i: usize,
+    r: &InputRow,
+) -> Result<usize, Refusal>
+    ensures told { told result ≡ verdict (input_fault flag there first i r.now) (record_items r.now) }
+    ensures small { IfOk result (λ n. first < 2 ^ 34 → first + n < 2 ^ 34) }
 {
     if !input_rule(flag, there, first, r) {
-        return Written::Refused(13, i);
+        return Err(RefusalKind::BadRecord.at(i));
     }
     if confused(r[1], r[2]) {
-        return Written::Refused(12, i);
+        return Err(RefusalKind::OutpointUnclear.at(i));
     }
     if null_issuance(r) {
-        return Written::Refused(6, i);
+        return Err(RefusalKind::NullIssuance.at(i));
     }
-    Written::Done(wide(r[18]) + wide(r[19]))
+    Ok(r[18] as usize + r[19] as usize)
 }
 
 // ---- 8
 
-pub(crate) fn empty_input(r: &[u32]) -> bool
-    requires { length r.now ≡ 20 }
+pub(crate) fn empty_input(r: &InputRow) -> bool
     ensures { result ≡ empty_input r.now }
 {
     (r[14] == 0) & (r[16] == 0) & (r[18] == 0) & (r[19] == 0)
 }
 
-pub(crate) fn empty_output(r: &[u32]) -> bool
-    requires { length r.now ≡ 14 }
+pub(crate) fn empty_output(r: &OutputRow) -> bool
     ensures { result ≡ empty_output r.now }
 {
     (r[11] == 0) & (r[13] == 0)
 }
 
-// ---- over all records
+// ---- over all records: a chain for each kind, since a generic one would take the same closure, and a clause on what it answers
 
 // Inputs that pass hand on the sum of their items. It stays below 2 ^ 34, since a first index is a u32.
-pub(crate) fn input_faults(flag: u32, there: usize, inputs: &[u32], n: usize) -> Written
-    requires { 20 * n ≤ length inputs.now }
-    ensures { result ≡ answer (input_faults flag there 0 0 (records 20 n inputs.now)) (sum record_items (records 20 n inputs.now)) }
+pub(crate) fn input_faults(flag: u32, there: usize, inputs: &[InputRow]) -> Result<usize, Refusal>
+    ensures { told result ≡ verdict (input_faults flag there 0 0 inputs.now) (sum record_items inputs.now) }
 {
     let mut first = 0;
-    let mut i = 0;
-    while i < n {
-        let at = TransactionDecoder::INPUT_WIDTH * i;
-        let w = input_fault(
-            flag,
-            there,
-            first,
-            i,
-            &inputs[at..at + TransactionDecoder::INPUT_WIDTH],
-        );
-        let Written::Done(more) = w else {
-            return w;
-        };
-        first += more;
-        i += 1;
+    for (i, r) in inputs.iter().enumerate() {
+        first += input_fault(flag, there, first, i, r)?;
     }
-    Written::Done(first)
+    Ok(first)
 }
 
-pub(crate) fn output_faults(flag: u32, there: usize, outputs: &[u32], n: usize) -> Written
-    requires { 14 * n ≤ length outputs.now }
-    ensures { result ≡ answer (rule_faults (output_rule flag there) 0 (records 14 n outputs.now)) 0 }
+// 13 at the first record that breaks its rule.
+pub(crate) fn broken(place: Option<usize>) -> Result<(), Refusal>
+    ensures { faulted result ≡ broken place }
 {
-    let mut i = 0;
-    while i < n {
-        let at = TransactionDecoder::OUTPUT_WIDTH * i;
-        if !output_rule(
-            flag,
-            there,
-            &outputs[at..at + TransactionDecoder::OUTPUT_WIDTH],
-        ) {
-            return Written::Refused(13, i);
-        }
-        i += 1;
+    match place {
+        Some(i) => Err(RefusalKind::BadRecord.at(i)),
+        None => Ok(()),
     }
-    Written::Done(0)
 }
 
-pub(crate) fn item_faults(flag: u32, there: usize, items: &[u32], n: usize) -> Written
-    requires { 2 * n ≤ length items.now }
-    ensures { result ≡ answer (rule_faults (item_rule flag there) 0 (records 2 n items.now)) 0 }
+pub(crate) fn output_faults(flag: u32, there: usize, outputs: &[OutputRow]) -> Result<(), Refusal>
+    ensures { faulted result ≡ rule_faults (output_rule flag there) 0 outputs.now }
 {
-    let mut i = 0;
-    while i < n {
-        let at = TransactionDecoder::ITEM_WIDTH * i;
-        if !item_rule(flag, there, &items[at..at + TransactionDecoder::ITEM_WIDTH]) {
-            return Written::Refused(13, i);
-        }
-        i += 1;
-    }
-    Written::Done(0)
+    broken(outputs.iter().position(|r| !output_rule(flag, there, r)))
 }
 
-pub(crate) fn inputs_empty(inputs: &[u32], n: usize) -> bool
-    requires { 20 * n ≤ length inputs.now }
-    ensures { result ≡ all empty_input (records 20 n inputs.now) }
+pub(crate) fn item_faults(flag: u32, there: usize, items: &[ItemRow]) -> Result<(), Refusal>
+    ensures { faulted result ≡ rule_faults (item_rule flag there) 0 items.now }
 {
-    let mut i = 0;
-    while i < n {
-        let at = TransactionDecoder::INPUT_WIDTH * i;
-        if !empty_input(&inputs[at..at + TransactionDecoder::INPUT_WIDTH]) {
-            return false;
-        }
-        i += 1;
-    }
-    true
+    broken(items.iter().position(|r| !item_rule(flag, there, r)))
 }
 
-pub(crate) fn outputs_empty(outputs: &[u32], n: usize) -> bool
-    requires { 14 * n ≤ length outputs.now }
-    ensures { result ≡ all empty_output (records 14 n outputs.now) }
+pub(crate) fn inputs_empty(inputs: &[InputRow]) -> bool
+    ensures { result ≡ all empty_input inputs.now }
 {
-    let mut i = 0;
-    while i < n {
-        let at = TransactionDecoder::OUTPUT_WIDTH * i;
-        if !empty_output(&outputs[at..at + TransactionDecoder::OUTPUT_WIDTH]) {
-            return false;
-        }
-        i += 1;
-    }
-    true
+    inputs.iter().all(|r| empty_input(r))
+}
+
+pub(crate) fn outputs_empty(outputs: &[OutputRow]) -> bool
+    ensures { result ≡ all empty_output outputs.now }
+{
+    outputs.iter().all(|r| empty_output(r))
 }
 
 // ---- 01's order
 
 // Flag 1, all witnesses empty.
-fn all_empty(flag: u32, inputs: &[u32], ins: usize, outputs: &[u32], outs: usize) -> bool
-    requires { (20 * ins ≤ length inputs.now) × (14 * outs ≤ length outputs.now) }
-    ensures { result ≡ (eqb flag 1 && all empty_input (records 20 ins inputs.now) && all empty_output (records 14 outs outputs.now)) }
+pub(crate) fn all_empty(flag: u32, inputs: &[InputRow], outputs: &[OutputRow]) -> bool
+    ensures { result ≡ (eqb flag 1 && all empty_input inputs.now && all empty_output outputs.now) }
 {
-    if flag != 1 {
-        return false;
-    }
-    if !inputs_empty(inputs, ins) {
-        return false;
-    }
-    outputs_empty(outputs, outs)
+    flag == 1 && inputs_empty(inputs) && outputs_empty(outputs)
 }
 
-// 10: a count exceeds its table. The sizes are in numbers.
-fn held(head: Head, inputs: usize, outputs: usize, items: usize) -> bool
-    ensures { result ≡ (leb head.inputs (inputs / 20) && leb head.outputs (outputs / 14) && leb head.items (items / 2)) }
-{
-    (wide(head.inputs) <= inputs / TransactionDecoder::INPUT_WIDTH)
-        & (wide(head.outputs) <= outputs / TransactionDecoder::OUTPUT_WIDTH)
-        & (wide(head.items) <= items / TransactionDecoder::ITEM_WIDTH)
-}
-
-// Inputs, outputs, items; then 13 at the number of inputs if the items don't add up; then 8.
-fn record_faults(
-    head: Head,
-    inputs: &[u32],
-    outputs: &[u32],
-    items: &[u32],
-    there: usize,
-) -> Written
-    requires { Held (head_numbers head) (tables inputs.now outputs.now items.now) }
-    ensures { result ≡ answer (record_faults (head_numbers head) (tables inputs.now outputs.now items.now) there) 0 }
-{
-    let ins = wide(head.inputs);
-    let outs = wide(head.outputs);
-    let its = wide(head.items);
-    let w = input_faults(head.flag, there, inputs, ins);
-    let Written::Done(sum) = w else {
-        return w;
-    };
-    let w2 = output_faults(head.flag, there, outputs, outs);
-    let Written::Done(_) = w2 else {
-        return w2;
-    };
-    let w3 = item_faults(head.flag, there, items, its);
-    let Written::Done(_) = w3 else {
-        return w3;
-    };
-    if sum != its {
-        return Written::Refused(13, ins);
+impl Transaction<'_> {
+    // Everything but 10, the written length and the output: 7; inputs, outputs, items; 13 at the number of inputs if the items don't add up; 8.
+    pub(crate) fn judge(&self, there: usize) -> Result<(), Refusal>
+        ensures { faulted result ≡ record_faults self.now.head.flag self.now.inputs.now self.now.outputs.now self.now.items.now there }
+    {
+        let flag = self.head.flag;
+        if 1 < flag {
+            return Err(RefusalKind::BadFlag.at(4));
+        }
+        let sum = input_faults(flag, there, self.inputs)?;
+        output_faults(flag, there, self.outputs)?;
+        item_faults(flag, there, self.items)?;
+        if sum != self.items.len() {
+            return Err(RefusalKind::BadRecord.at(self.inputs.len()));
+        }
+        if all_empty(flag, self.inputs, self.outputs) {
+            return Err(RefusalKind::EmptyWitnesses.at(4));
+        }
+        Ok(())
     }
-    if all_empty(head.flag, inputs, ins, outputs, outs) {
-        return Written::Refused(8, 4);
-    }
-    Written::Done(0)
-}
-
-// Everything but the written length and the output: 10; 7; the records.
-pub(crate) fn judge(
-    head: Head,
-    inputs: &[u32],
-    outputs: &[u32],
-    items: &[u32],
-    there: usize,
-) -> Written
-    ensures { result ≡ answer (table_faults (head_numbers head) (tables inputs.now outputs.now items.now) there) 0 }
-{
-    if !held(head, inputs.len(), outputs.len(), items.len()) {
-        return Written::Refused(10, 0);
-    }
-    if 1 < head.flag {
-        return Written::Refused(7, 4);
-    }
-    record_faults(head, inputs, outputs, items, there)
 }

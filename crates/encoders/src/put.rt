@@ -1,337 +1,191 @@
-// Pass 2: what pass 1 has judged to pass is written. Each function puts its bytes into `out` at `k`, and answers where the next ones go.
-ghost use Rattle.std.specs.Prelude.{◌≡◌, ◌∷◌, [], ◌+◌, ◌*◌, ◌^◌, ◌<◌, ◌≤◌, length};
-ghost use Rattle.layout.specs.Number.{little, big, bytes_of};
-ghost use Rattle.layout.specs.Contents.{compact_bytes, flat, body_bytes, list_bytes, value_bytes, token_bytes, issuance_bytes, input_bytes, output_bytes, output_witness_bytes};
-ghost use Rattle.layout.specs.Writing.{over, records, written_bytes, body, value_of, token_of, input_of, output_of, output_witness_of};
-ghost use Rattle.encoders.specs.Puts.{Room, Puts, Prefixed, issuance_in, IssuanceReady, InputReady, OutputReady, OutputWitnessReady};
-ghost use Rattle.encoders.specs.Puts.{Rows, ItemReady, StackReady, InputWitnessReady, item_bytes, stack_of, witness_bytes, input_row_bytes, output_row_bytes, output_witness_row_bytes, Passed, WitnessesReady, witnesses_put};
+// Pass 2: what pass 1 has judged to pass is written, byte after byte, into a sink.
+// Source and sink are two arguments, no struct: it would lend the sink inside, and each promise would speak of that field at both ends.
+ghost use Rattle.std.specs.Prelude.{◌≡◌, ◌+◌, ◌≤◌, length, take, drop, map};
+ghost use Rattle.layout.specs.Contents.{Every, compact_bytes, body_bytes, list_bytes, value_bytes, token_bytes, issuance_bytes, input_witness_bytes, output_witness_bytes};
+ghost use Rattle.layout.specs.Writing.{written_length, written_bytes, body, value_of, token_of, item_of, input_witness_of, output_witness_of};
 ghost use Rattle.decoders.specs.Feeding.{tables};
-ghost use Rattle.encoders.specs.Answers.{head_numbers};
+ghost use Rattle.encoders.specs.Answers.{told, head_numbers};
+ghost use Rattle.encoders.specs.Sinks.{Took, handed};
+ghost use Rattle.encoders.specs.Puts.{Prefixed, issuance_in, IssuanceReady, InputReady, OutputReady, OutputWitnessReady, ItemReady, InputWitnessReady, input_row_bytes, output_row_bytes, witness_row_bytes, output_witness_row_bytes, TransactionReady, transaction_bytes};
 
 use crate::check;
+use crate::sink::Sink;
+use crate::table::{InputRow, ItemRow, OutputRow, Transaction};
 use decoders::Head;
-
-fn put_byte(b: u8, out: &mut [u8], k: usize) -> usize
-    requires { Room (b ∷ []) out.old k }
-    ensures { Puts (b ∷ []) out.old k out.new result }
-{
-    out[k] = b;
-    k + 1
-}
-
-fn put_two_little(n: u32, out: &mut [u8], k: usize) -> usize
-    requires { Room (bytes_of little 2 n) out.old k }
-    ensures { Puts (bytes_of little 2 n) out.old k out.new result }
-{
-    let next = put_byte((n % 256) as u8, out, k);
-    put_byte((n / 256 % 256) as u8, out, next)
-}
-
-fn put_four_little(n: u32, out: &mut [u8], k: usize) -> usize
-    requires { Room (bytes_of little 4 n) out.old k }
-    ensures { Puts (bytes_of little 4 n) out.old k out.new result }
-{
-    let next = put_two_little(n, out, k);
-    put_two_little(n / 256 / 256, out, next)
-}
-
-fn put_four_big(n: u32, out: &mut [u8], k: usize) -> usize
-    requires { Room (bytes_of big 4 n) out.old k }
-    ensures { Puts (bytes_of big 4 n) out.old k out.new result }
-{
-    let second = put_byte((n / 16777216 % 256) as u8, out, k);
-    let third = put_byte((n / 65536 % 256) as u8, out, second);
-    let fourth = put_byte((n / 256 % 256) as u8, out, third);
-    put_byte((n % 256) as u8, out, fourth)
-}
-
-fn put_eight_big(high: u32, low: u32, out: &mut [u8], k: usize) -> usize
-    requires { Room (bytes_of big 8 (2 ^ 32 * high + low)) out.old k }
-    ensures { Puts (bytes_of big 8 (2 ^ 32 * high + low)) out.old k out.new result }
-{
-    let next = put_four_big(high, out, k);
-    put_four_big(low, out, next)
-}
+use encode::Refusal;
 
 // The shortest form; no number of a table is above 4294967295.
-fn put_compact(n: u32, out: &mut [u8], k: usize) -> usize
-    requires { Room (compact_bytes n) out.old k }
-    ensures { Puts (compact_bytes n) out.old k out.new result }
+fn put_compact<S: Sink>(n: u32, sink: &mut S)
+    ensures { Took S.step (compact_bytes n) sink.old sink.new }
 {
     if n <= 252 {
-        return put_byte(n as u8, out, k);
+        sink.byte(n as u8);
+        return;
     }
     if n <= 65535 {
-        let next = put_byte(253, out, k);
-        return put_two_little(n, out, next);
+        sink.byte(253);
+        sink.part(&(n as u16).to_le_bytes());
+        return;
     }
-    let next = put_byte(254, out, k);
-    put_four_little(n, out, next)
+    sink.byte(254);
+    sink.part(&n.to_le_bytes());
 }
 
-fn put_part(source: &[u8], at: usize, n: usize, out: &mut [u8], k: usize) -> usize
-    requires n_in_bounds { at + n ≤ length source.now }
-    requires room { Room (body source.now at n) out.old k }
-    ensures { Puts (body source.now at n) out.old k out.new result }
+fn put_part<S: Sink>(source: &[u8], at: usize, n: usize, sink: &mut S)
+    requires { at + n ≤ length source.now }
+    ensures { Took S.step (body source.now at n) sink.old sink.new }
 {
-    let mut i = 0;
-    while i < n {
-        out[k + i] = source[at + i];
-        i += 1;
-    }
-    k + n
+    let end = at + n;
+    sink.part(&source[at..end]);
 }
 
-fn put_body(source: &[u8], at: u32, n: u32, out: &mut [u8], k: usize) -> usize
-    requires n_in_bounds { at + n ≤ length source.now }
-    requires room { Room (body_bytes (body source.now at n)) out.old k }
-    ensures { Puts (body_bytes (body source.now at n)) out.old k out.new result }
+fn put_body<S: Sink>(source: &[u8], at: u32, n: u32, sink: &mut S)
+    requires { at + n ≤ length source.now }
+    ensures { Took S.step (body_bytes (body source.now at n)) sink.old sink.new }
 {
-    let next = put_compact(n, out, k);
-    put_part(source, at as usize, n as usize, out, next)
+    put_compact(n, sink);
+    put_part(source, at as usize, n as usize, sink);
 }
 
-fn put_value(
-    source: &[u8],
-    at: usize,
-    prefix: u32,
-    high: u32,
-    low: u32,
-    out: &mut [u8],
-    k: usize,
-) -> usize
-    requires prefixed { Prefixed 2 (length source.now) at prefix }
-    requires room { Room (value_bytes (value_of source.now at prefix high low)) out.old k }
-    ensures { Puts (value_bytes (value_of source.now at prefix high low)) out.old k out.new result }
+fn put_value<S: Sink>(source: &[u8], at: usize, prefix: u32, high: u32, low: u32, sink: &mut S)
+    requires { Prefixed 2 (length source.now) at prefix }
+    ensures { Took S.step (value_bytes (value_of source.now at prefix high low)) sink.old sink.new }
 {
-    let next = put_byte(prefix as u8, out, k);
+    sink.byte(prefix as u8);
     if prefix == 0 {
-        return next;
+        return;
     }
     if prefix == 1 {
-        return put_eight_big(high, low, out, next);
+        sink.part(&high.to_be_bytes());
+        sink.part(&low.to_be_bytes());
+        return;
     }
-    put_part(source, at + 1, 32, out, next)
+    put_part(source, at + 1, 32, sink);
 }
 
-fn put_token(source: &[u8], at: u32, prefix: u32, out: &mut [u8], k: usize) -> usize
-    requires prefixed { Prefixed 1 (length source.now) at prefix }
-    requires room { Room (token_bytes (token_of source.now at prefix)) out.old k }
-    ensures { Puts (token_bytes (token_of source.now at prefix)) out.old k out.new result }
+fn put_token<S: Sink>(source: &[u8], at: u32, prefix: u32, sink: &mut S)
+    requires { Prefixed 1 (length source.now) at prefix }
+    ensures { Took S.step (token_bytes (token_of source.now at prefix)) sink.old sink.new }
 {
-    let next = put_byte(prefix as u8, out, k);
+    sink.byte(prefix as u8);
     if prefix == 0 {
-        return next;
+        return;
     }
-    put_part(source, at as usize + 1, 32, out, next)
+    put_part(source, at as usize + 1, 32, sink);
 }
 
 // Only with the issuance flag.
-fn put_issuance(source: &[u8], r: &[u32], out: &mut [u8], k: usize) -> usize
-    requires issuance_ready { IssuanceReady (length source.now) r.now }
-    requires room { Room (issuance_bytes (issuance_in source.now r.now)) out.old k }
-    ensures { Puts (issuance_bytes (issuance_in source.now r.now)) out.old k out.new result }
+fn put_issuance<S: Sink>(source: &[u8], r: &InputRow, sink: &mut S)
+    requires { IssuanceReady (length source.now) r.now }
+    ensures { Took S.step (issuance_bytes (issuance_in source.now r.now)) sink.old sink.new }
 {
     if r[2] < 2 {
-        return k;
+        return;
     }
     let at = r[6] as usize;
-    let entropy = put_part(source, at, 32, out, k);
-    let amount = put_part(source, at + 32, 32, out, entropy);
-    let keys = put_value(source, at + 64, r[7], r[8], r[9], out, amount);
+    put_part(source, at, 32, sink);
+    put_part(source, at + 32, 32, sink);
+    put_value(source, at + 64, r[7], r[8], r[9], sink);
     let behind = at + 64 + check::value_width(r[7]);
-    put_value(source, behind, r[10], r[11], r[12], out, keys)
+    put_value(source, behind, r[10], r[11], r[12], sink);
 }
 
-fn put_input(source: &[u8], r: &[u32], out: &mut [u8], k: usize) -> usize
-    requires input_ready { InputReady (length source.now) r.now }
-    requires room { Room (input_bytes (input_of source.now r.now)) out.old k }
-    ensures { Puts (input_bytes (input_of source.now r.now)) out.old k out.new result }
+fn put_input<S: Sink>(source: &[u8], r: &InputRow, sink: &mut S)
+    requires { InputReady (length source.now) r.now }
+    ensures { Took S.step (input_row_bytes source.now r.now) sink.old sink.new }
 {
-    let vout = put_part(source, r[0] as usize, 32, out, k);
-    let script = put_four_little(r[1] | r[2] << 30, out, vout);
-    let sequence = put_body(source, r[3], r[4], out, script);
-    let issuance = put_four_little(r[5], out, sequence);
-    put_issuance(source, r, out, issuance)
+    put_part(source, r[0] as usize, 32, sink);
+    sink.part(&(r[1] | r[2] << 30).to_le_bytes());
+    put_body(source, r[3], r[4], sink);
+    sink.part(&r[5].to_le_bytes());
+    put_issuance(source, r, sink);
 }
 
-fn put_output(source: &[u8], r: &[u32], out: &mut [u8], k: usize) -> usize
-    requires output_ready { OutputReady (length source.now) r.now }
-    requires room { Room (output_bytes (output_of source.now r.now)) out.old k }
-    ensures { Puts (output_bytes (output_of source.now r.now)) out.old k out.new result }
+fn put_output<S: Sink>(source: &[u8], r: &OutputRow, sink: &mut S)
+    requires { OutputReady (length source.now) r.now }
+    ensures { Took S.step (output_row_bytes source.now r.now) sink.old sink.new }
 {
-    let value = put_token(source, r[1], r[0], out, k);
-    let nonce = put_value(source, r[3] as usize, r[2], r[4], r[5], out, value);
-    let script = put_token(source, r[7], r[6], out, nonce);
-    put_body(source, r[8], r[9], out, script)
+    put_token(source, r[1], r[0], sink);
+    put_value(source, r[3] as usize, r[2], r[4], r[5], sink);
+    put_token(source, r[7], r[6], sink);
+    put_body(source, r[8], r[9], sink);
 }
 
-fn put_output_witness(source: &[u8], r: &[u32], out: &mut [u8], k: usize) -> usize
-    requires output_witness_ready { OutputWitnessReady (length source.now) r.now }
-    requires room { Room (output_witness_bytes (output_witness_of source.now r.now)) out.old k }
-    ensures { Puts (output_witness_bytes (output_witness_of source.now r.now)) out.old k out.new result }
+fn put_output_witness<S: Sink>(source: &[u8], r: &OutputRow, sink: &mut S)
+    requires { OutputWitnessReady (length source.now) r.now }
+    ensures { Took S.step (output_witness_row_bytes source.now r.now) sink.old sink.new }
 {
-    let range_proof = put_body(source, r[10], r[11], out, k);
-    put_body(source, r[12], r[13], out, range_proof)
-}
-
-fn put_item(source: &[u8], r: &[u32], out: &mut [u8], k: usize) -> usize
-    requires item_ready { ItemReady (length source.now) r.now }
-    requires room { Room (item_bytes source.now r.now) out.old k }
-    ensures { Puts (item_bytes source.now r.now) out.old k out.new result }
-{
-    put_body(source, r[0], r[1], out, k)
-}
-
-fn put_items(source: &[u8], items: &[u32], n: usize, out: &mut [u8], k: usize) -> usize
-    requires rows { Rows 2 n (ItemReady (length source.now)) items.now }
-    requires room { Room (flat (item_bytes source.now) (records 2 n items.now)) out.old k }
-    ensures { Puts (flat (item_bytes source.now) (records 2 n items.now)) out.old k out.new result }
-{
-    let mut i = 0;
-    let mut next = k;
-    while i < n {
-        let at = 2 * i;
-        let end = at + 2;
-        next = put_item(source, &items[at..end], out, next);
-        i += 1;
-    }
-    next
+    put_body(source, r[10], r[11], sink);
+    put_body(source, r[12], r[13], sink);
 }
 
 // The items of one stack stand from the first on.
-fn put_stack(source: &[u8], items: &[u32], first: usize, n: u32, out: &mut [u8], k: usize) -> usize
-    requires stack_ready { StackReady (length source.now) items.now first n }
-    requires room { Room (list_bytes body_bytes (stack_of source.now items.now first n)) out.old k }
-    ensures { Puts (list_bytes body_bytes (stack_of source.now items.now first n)) out.old k out.new result }
+fn put_stack<S: Sink>(source: &[u8], items: &[ItemRow], first: usize, n: u32, sink: &mut S)
+    requires ready { Every (ItemReady (length source.now)) items.now }
+    requires held { first + n ≤ length items.now }
+    ensures { Took S.step (list_bytes body_bytes (take n (drop first (map (item_of source.now) items.now)))) sink.old sink.new }
 {
-    let from = 2 * first;
-    let next = put_compact(n, out, k);
-    put_items(source, &items[from..], n as usize, out, next)
+    put_compact(n, sink);
+    let end = first + n as usize;
+    for r in &items[first..end] {
+        put_body(source, r[0], r[1], sink);
+    }
 }
 
-fn put_input_witness(source: &[u8], items: &[u32], r: &[u32], out: &mut [u8], k: usize) -> usize
-    requires input_witness_ready { InputWitnessReady (length source.now) items.now r.now }
-    requires room { Room (witness_bytes source.now items.now r.now) out.old k }
-    ensures { Puts (witness_bytes source.now items.now r.now) out.old k out.new result }
+fn put_input_witness<S: Sink>(source: &[u8], items: &[ItemRow], r: &InputRow, sink: &mut S)
+    requires items_ready { Every (ItemReady (length source.now)) items.now }
+    requires ready { InputWitnessReady (length source.now) (length items.now) r.now }
+    ensures { Took S.step (witness_row_bytes source.now items.now r.now) sink.old sink.new }
 {
-    let keys = put_body(source, r[13], r[14], out, k);
-    let script = put_body(source, r[15], r[16], out, keys);
+    put_body(source, r[13], r[14], sink);
+    put_body(source, r[15], r[16], sink);
     let first = r[17] as usize;
-    let pegin = put_stack(source, items, first, r[18], out, script);
-    let behind = first + r[18] as usize;
-    put_stack(source, items, behind, r[19], out, pegin)
+    put_stack(source, items, first, r[18], sink);
+    put_stack(source, items, first + r[18] as usize, r[19], sink);
 }
 
-fn put_inputs(source: &[u8], inputs: &[u32], n: usize, out: &mut [u8], k: usize) -> usize
-    requires rows { Rows 20 n (InputReady (length source.now)) inputs.now }
-    requires room { Room (flat (input_row_bytes source.now) (records 20 n inputs.now)) out.old k }
-    ensures { Puts (flat (input_row_bytes source.now) (records 20 n inputs.now)) out.old k out.new result }
-{
-    let mut i = 0;
-    let mut next = k;
-    while i < n {
-        let at = 20 * i;
-        let end = at + 20;
-        next = put_input(source, &inputs[at..end], out, next);
-        i += 1;
+impl Transaction<'_> {
+    // Each count stands before its records; witnesses are last.
+    pub(crate) fn put<S: Sink>(&self, source: &[u8], sink: &mut S)
+        requires { TransactionReady (length source.now) self.now }
+        ensures { Took S.step (transaction_bytes source.now self.now) sink.old sink.new }
+    {
+        sink.part(&self.head.version.to_le_bytes());
+        sink.byte(self.head.flag as u8);
+        put_compact(self.head.inputs, sink);
+        for r in self.inputs {
+            put_input(source, r, sink);
+        }
+        put_compact(self.head.outputs, sink);
+        for r in self.outputs {
+            put_output(source, r, sink);
+        }
+        sink.part(&self.head.locktime.to_le_bytes());
+        if self.head.flag == 0 {
+            return;
+        }
+        for r in self.inputs {
+            put_input_witness(source, self.items, r, sink);
+        }
+        for r in self.outputs {
+            put_output_witness(source, r, sink);
+        }
     }
-    next
 }
 
-fn put_outputs(source: &[u8], outputs: &[u32], n: usize, out: &mut [u8], k: usize) -> usize
-    requires rows { Rows 14 n (OutputReady (length source.now)) outputs.now }
-    requires room { Room (flat (output_row_bytes source.now) (records 14 n outputs.now)) out.old k }
-    ensures { Puts (flat (output_row_bytes source.now) (records 14 n outputs.now)) out.old k out.new result }
-{
-    let mut i = 0;
-    let mut next = k;
-    while i < n {
-        let at = 14 * i;
-        let end = at + 14;
-        next = put_output(source, &outputs[at..end], out, next);
-        i += 1;
-    }
-    next
-}
-
-fn put_input_witnesses(
-    source: &[u8],
-    items: &[u32],
-    inputs: &[u32],
-    n: usize,
-    out: &mut [u8],
-    k: usize,
-) -> usize
-    requires rows { Rows 20 n (InputWitnessReady (length source.now) items.now) inputs.now }
-    requires room { Room (flat (witness_bytes source.now items.now) (records 20 n inputs.now)) out.old k }
-    ensures { Puts (flat (witness_bytes source.now items.now) (records 20 n inputs.now)) out.old k out.new result }
-{
-    let mut i = 0;
-    let mut next = k;
-    while i < n {
-        let at = 20 * i;
-        let end = at + 20;
-        next = put_input_witness(source, items, &inputs[at..end], out, next);
-        i += 1;
-    }
-    next
-}
-
-fn put_output_witnesses(source: &[u8], outputs: &[u32], n: usize, out: &mut [u8], k: usize) -> usize
-    requires rows { Rows 14 n (OutputWitnessReady (length source.now)) outputs.now }
-    requires room { Room (flat (output_witness_row_bytes source.now) (records 14 n outputs.now)) out.old k }
-    ensures { Puts (flat (output_witness_row_bytes source.now) (records 14 n outputs.now)) out.old k out.new result }
-{
-    let mut i = 0;
-    let mut next = k;
-    while i < n {
-        let at = 14 * i;
-        let end = at + 14;
-        next = put_output_witness(source, &outputs[at..end], out, next);
-        i += 1;
-    }
-    next
-}
-
-fn put_witnesses(
+// Writes a transaction into any sink. A refused one hands it nothing.
+pub fn write_to<S: Sink>(
     head: Head,
     inputs: &[u32],
     outputs: &[u32],
     items: &[u32],
     source: &[u8],
-    out: &mut [u8],
-    k: usize,
-) -> usize
-    requires witnesses_ready { WitnessesReady (length source.now) (head_numbers head) (tables inputs.now outputs.now items.now) }
-    requires room { Room (witnesses_put source.now (head_numbers head) (tables inputs.now outputs.now items.now)) out.old k }
-    ensures { Puts (witnesses_put source.now (head_numbers head) (tables inputs.now outputs.now items.now)) out.old k out.new result }
+    sink: &mut S,
+) -> Result<usize, Refusal>
+    ensures answers { told result ≡ written_length (head_numbers head) (tables inputs.now outputs.now items.now) source.now }
+    ensures takes { Took S.step (handed (written_length (head_numbers head) (tables inputs.now outputs.now items.now) source.now) (written_bytes (head_numbers head) (tables inputs.now outputs.now items.now) source.now)) sink.old sink.new }
 {
-    let next = put_input_witnesses(source, items, inputs, head.inputs as usize, out, k);
-    put_output_witnesses(source, outputs, head.outputs as usize, out, next)
-}
-
-// A whole transaction, from its head numbers, tables and source. The output is written from its start on.
-pub(crate) fn put_transaction(
-    head: Head,
-    inputs: &[u32],
-    outputs: &[u32],
-    items: &[u32],
-    source: &[u8],
-    out: &mut [u8],
-) -> usize
-    requires { Passed (head_numbers head) (tables inputs.now outputs.now items.now) source.now out.old }
-    ensures { (result ≡ length (written_bytes (head_numbers head) (tables inputs.now outputs.now items.now) source.now)) × (out.new ≡ over (written_bytes (head_numbers head) (tables inputs.now outputs.now items.now) source.now) out.old) }
-{
-    let flag = put_four_little(head.version, out, 0);
-    let in_count = put_byte(head.flag as u8, out, flag);
-    let in_rows = put_compact(head.inputs, out, in_count);
-    let out_count = put_inputs(source, inputs, head.inputs as usize, out, in_rows);
-    let out_rows = put_compact(head.outputs, out, out_count);
-    let locktime = put_outputs(source, outputs, head.outputs as usize, out, out_rows);
-    let witnesses = put_four_little(head.locktime, out, locktime);
-    if head.flag == 0 {
-        return witnesses;
-    }
-    put_witnesses(head, inputs, outputs, items, source, out, witnesses)
+    let (transaction, n) = Transaction::judged(head, inputs, outputs, items, source)?;
+    transaction.put(source, sink);
+    Ok(n)
 }

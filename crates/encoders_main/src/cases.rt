@@ -6,91 +6,51 @@
 //     j         junk in the three tables, from these numbers on
 //     n, s, r   how many numbers of the tables, bytes of the source, bytes of the output are lent
 //     w, m      what should be written instead: one byte, w123=9; m6,875,32: from byte 6 on, the source's 32 from 875 on
-use crate::load::{Edit, Load};
+use crate::load;
 
-// Where the reading of the lines stands: in a name, or among the changes.
-#[derive(Clone, Copy)]
-struct Reader {
-    load: Load,
-    edit: Edit,
-    naming: bool,
+fn value(digits: &[u8]) -> u32 {
+    digits.iter().fold(0u32, |n, d| {
+        n.wrapping_mul(10).wrapping_add(u32::from(*d % 16))
+    })
 }
 
-fn begun(letter: u8) -> Edit {
-    Edit {
-        letter: letter,
-        a: 0,
-        b: 0,
-        c: 0,
-        inside: false,
+// The numbers behind a change's letter, up to three.
+fn numbers(s: &[u8]) -> [u32; 3] {
+    let mut all = [0u32; 3];
+    let found = s.split(|b| !b.is_ascii_digit()).filter(|d| !d.is_empty());
+    for (n, digits) in all.iter_mut().zip(found) {
+        *n = value(digits);
     }
+    all
 }
 
-// The number with one digit more. A digit's last four bits are its value.
-fn grown(n: usize, digit: u8) -> usize {
-    10 * (n % 1_000_000_000) + (digit % 16) as usize
-}
-
-// A digit goes on with a number, or begins the next; anything else ends it.
-fn numbered(e: Edit, b: u8) -> Edit {
-    let mut next = e;
-    if b < b'0' || b'9' < b {
-        next.inside = false;
-        return next;
+fn case(line: &[u8]) {
+    let Some(colon) = line.iter().position(|b| *b == b':') else {
+        trial::text(line);
+        trial::text(b"\n");
+        return;
+    };
+    let (name, changes) = line.split_at(colon);
+    trial::text(name);
+    trial::text(b":");
+    let mut l = load::full();
+    for word in changes.split(|b| *b == b' ') {
+        if let Some((letter, behind)) = word.split_first() {
+            l.change(*letter, numbers(behind));
+        }
     }
-    if !e.inside {
-        next.a = e.b;
-        next.b = e.c;
-        next.c = 0;
-        next.inside = true;
-    }
-    next.c = grown(next.c, b);
-    next
-}
-
-fn named(r: Reader, b: u8) -> Reader {
-    let mut next = r;
-    let s = [b];
-    trial::text(&s);
-    next.naming = b != b':';
-    next
-}
-
-// A letter begins the next change; the line's end shows the case.
-fn changed(r: Reader, b: u8) -> Reader {
-    let mut next = r;
-    if b < b'A' && b != b'\n' {
-        let e = numbered(r.edit, b);
-        next.edit = e;
-        return next;
-    }
-    let l = next.load.changed(next.edit);
-    next.load = l;
-    let e = begun(b);
-    next.edit = e;
-    if b == b'\n' {
-        l.shown();
-        next.naming = true;
-    }
-    next
+    l.show();
 }
 
 fn cases(text: &[u8]) {
-    let mut r = Reader {
-        load: crate::load::full(),
-        edit: begun(0),
-        naming: true,
-    };
-    let mut k = 0;
-    while k < text.len() {
-        r = if r.naming {
-            named(r, text[k])
-        } else {
-            changed(r, text[k])
-        };
-        k += 1;
+    for line in text.split(|b| *b == b'\n') {
+        if !line.is_empty() {
+            case(line);
+        }
     }
 }
+
+// Eight functions with a text each, since one with all of it would be 240 lines long.
 
 // Loads; 6, 7 and 8. The witnesses of the 103 bytes are the last 7.
 pub(crate) fn loads() {

@@ -1,20 +1,12 @@
 // What a writing is lent, with room for 3 inputs, 4 outputs and 4 items, and the bytes that it should write.
-use crate::show;
-use decoders::{Answer, Head, TransactionDecoder};
+use crate::show::Given;
+use decoders::{Answer, Head};
+use trial::Tables;
 
-// A change: a letter, and the last three numbers behind it; whether a digit would go on with the last.
+// How many numbers of each table, bytes of the source and bytes of the output are lent: numbers, since a case may change them before what
+// they cut.
 #[derive(Clone, Copy)]
-pub(crate) struct Edit {
-    pub(crate) letter: u8,
-    pub(crate) a: usize,
-    pub(crate) b: usize,
-    pub(crate) c: usize,
-    pub(crate) inside: bool,
-}
-
-// How many numbers of each table, bytes of the source and bytes of the output are lent.
-#[derive(Clone, Copy)]
-pub(crate) struct Lent {
+struct Lent {
     inputs: usize,
     outputs: usize,
     items: usize,
@@ -25,9 +17,8 @@ pub(crate) struct Lent {
 #[derive(Clone, Copy)]
 pub(crate) struct Load {
     head: Head,
-    inputs: [u32; 60],
-    outputs: [u32; 56],
-    items: [u32; 8],
+    tables: Tables<60, 56, 8>,
+    // 907 bytes, the longest load's, in both: no heap, and no other place that a slice could be of
     source: [u8; 907],
     wanted: [u8; 907],
     lent: Lent,
@@ -36,31 +27,10 @@ pub(crate) struct Load {
 // The bytes, and then 0.
 fn spread(s: &[u8]) -> [u8; 907] {
     let mut t = [0u8; 907];
-    let mut k = 0;
-    while k < 907 && k < s.len() {
-        t[k] = s[k];
-        k += 1;
+    for (to, from) in t.iter_mut().zip(s) {
+        *to = *from;
     }
     t
-}
-
-// So many bytes of s go into t, from one place to another.
-fn copied(t: [u8; 907], to: usize, s: [u8; 907], from: usize, n: usize) -> [u8; 907] {
-    let mut out = t;
-    let mut a = to;
-    let mut b = from;
-    let mut left = n;
-    while a < 907 && b < 907 && 0 < left {
-        out[a] = s[b];
-        a += 1;
-        b = std::num::wrapping_add_usize(b, 1);
-        left -= 1;
-    }
-    out
-}
-
-fn small_number(n: usize) -> u32 {
-    (n % 0x1_0000_0000) as u32
 }
 
 // Head numbers of a finished reading.
@@ -79,194 +49,120 @@ pub(crate) fn finished(a: Answer) -> Head {
     head
 }
 
-// So many numbers of a table, bytes of a source, bytes of an output; all if there are less.
-fn numbers(t: &[u32], n: usize) -> &[u32] {
-    if n < t.len() {
-        return &t[0..n];
-    }
-    t
+// So many of them, all if there are less.
+fn first<T>(t: &[T], n: usize) -> &[T] {
+    &t[..n.min(t.len())]
 }
 
-fn bytes(s: &[u8], n: usize) -> &[u8] {
-    if n < s.len() {
-        return &s[0..n];
-    }
-    s
-}
-
-pub(crate) fn room(s: &mut [u8], n: usize) -> &mut [u8] {
-    if n < s.len() {
-        return &mut s[0..n];
-    }
-    s
-}
-
-fn junk_from(t: &mut [u32], from: usize) {
-    if from < t.len() {
-        trial::fill(&mut t[from..], 4294967295);
+// One number, where the table has it.
+fn set<T: Copy>(t: &mut [T], at: usize, v: T) {
+    if let Some(cell) = t.get_mut(at) {
+        *cell = v;
     }
 }
 
-// Each method changes one thing.
+// Junk from one number on.
+fn junk(t: &mut [u32], from: usize) {
+    if let Some(behind) = t.get_mut(from..) {
+        behind.fill(4294967295);
+    }
+}
+
 impl Load {
-    fn input(mut self, record: usize, column: usize, v: u32) -> Load {
-        let k = 20 * (record % 3) + column % 20;
-        if k < 60 {
-            self.inputs[k] = v;
+    // Bytes that should be written from `to` on; they stand in the source from `from` on.
+    fn move_bytes(&mut self, to: usize, from: usize, n: usize) {
+        if 907 < to || 907 < from {
+            return;
         }
-        self
-    }
-
-    fn output(mut self, record: usize, column: usize, v: u32) -> Load {
-        let k = 14 * (record % 4) + column % 14;
-        if k < 56 {
-            self.outputs[k] = v;
+        let source = self.source;
+        let bytes = first(&source[from..], n);
+        for (to, from) in self.wanted[to..].iter_mut().zip(bytes) {
+            *to = *from;
         }
-        self
     }
 
-    fn item(mut self, record: usize, column: usize, v: u32) -> Load {
-        let k = 2 * (record % 4) + column % 2;
-        if k < 8 {
-            self.items[k] = v;
-        }
-        self
-    }
-
-    fn flag(mut self, v: u32) -> Load {
-        self.head.flag = v;
-        self
-    }
-
-    fn length(mut self, v: u32) -> Load {
-        self.head.bytes = v;
-        self
-    }
-
-    fn counts(mut self, inputs: u32, outputs: u32, items: u32) -> Load {
-        self.head.inputs = inputs;
-        self.head.outputs = outputs;
-        self.head.items = items;
-        self
-    }
-
-    // Junk in each table from one number on.
-    fn junk(mut self, inputs: usize, outputs: usize, items: usize) -> Load {
-        let mut i = self.inputs;
-        let mut o = self.outputs;
-        let mut n = self.items;
-        junk_from(&mut i, inputs);
-        junk_from(&mut o, outputs);
-        junk_from(&mut n, items);
-        self.inputs = i;
-        self.outputs = o;
-        self.items = n;
-        self
-    }
-
-    // How much is lent: numbers of the tables, bytes of the source, bytes of the output.
-    fn tables(mut self, inputs: usize, outputs: usize, items: usize) -> Load {
+    // How many numbers of the tables are lent. Here, in `count` and in `junk`: one number for each of three fields; an array would be taken
+    // apart again.
+    fn lend(&mut self, inputs: usize, outputs: usize, items: usize) {
         self.lent.inputs = inputs;
         self.lent.outputs = outputs;
         self.lent.items = items;
-        self
     }
 
-    fn there(mut self, n: usize) -> Load {
-        self.lent.source = n;
-        self
+    fn count(&mut self, inputs: u32, outputs: u32, items: u32) {
+        self.head.inputs = inputs;
+        self.head.outputs = outputs;
+        self.head.items = items;
     }
 
-    fn room(mut self, n: usize) -> Load {
-        self.lent.room = n;
-        self
+    fn junk(&mut self, inputs: usize, outputs: usize, items: usize) {
+        junk(&mut self.tables.inputs, inputs);
+        junk(&mut self.tables.outputs, outputs);
+        junk(&mut self.tables.items, items);
     }
 
-    // A byte that should be written at k.
-    fn want(mut self, k: usize, v: u8) -> Load {
-        if k < 907 {
-            self.wanted[k] = v;
-        }
-        self
-    }
-
-    // Bytes that should be written from `to` on; they stand in the source from `from` on.
-    fn moved(mut self, to: usize, from: usize, n: usize) -> Load {
-        let t = self.wanted;
-        let s = self.source;
-        let w = copied(t, to, s, from, n);
-        self.wanted = w;
-        self
-    }
-
-    // A change by its letter and its last three numbers.
-    pub(crate) fn changed(self, e: Edit) -> Load {
-        let letter = e.letter;
+    // A change by its letter, as `cases` lists them, and its numbers, 0 where it has fewer. Each letter stands here alone: an enum of them with
+    // a TryFrom would list all 17 twice.
+    pub(crate) fn change(&mut self, letter: u8, numbers: [u32; 3]) {
+        let [p, q, r] = numbers;
+        let a = p as usize;
+        let b = q as usize;
+        let c = r as usize;
         match letter {
-            b'E' => empty(),
-            b'F' => full(),
-            b'B' => bodies(),
-            b'S' => small(),
-            b'P' => plain(),
-            b'i' => self.input(e.a, e.b, small_number(e.c)),
-            b'o' => self.output(e.a, e.b, small_number(e.c)),
-            b't' => self.item(e.a, e.b, small_number(e.c)),
-            b'f' => self.flag(small_number(e.c)),
-            b'h' => self.length(small_number(e.c)),
-            b'c' => self.counts(small_number(e.a), small_number(e.b), small_number(e.c)),
-            b'j' => self.junk(e.a, e.b, e.c),
-            b'n' => self.tables(e.a, e.b, e.c),
-            b's' => self.there(e.c),
-            b'r' => self.room(e.c),
-            b'w' => self.want(e.b, (e.c % 256) as u8),
-            b'm' => self.moved(e.a, e.b, e.c),
-            _ => self,
+            b'E' => *self = empty(),
+            b'F' => *self = full(),
+            b'B' => *self = bodies(),
+            b'S' => *self = small(),
+            b'P' => *self = plain(),
+            b'i' => set(&mut self.tables.inputs, 20 * a + b, r),
+            b'o' => set(&mut self.tables.outputs, 14 * a + b, r),
+            b't' => set(&mut self.tables.items, 2 * a + b, r),
+            b'f' => self.head.flag = p,
+            b'h' => self.head.bytes = p,
+            b'c' => self.count(p, q, r),
+            b'j' => self.junk(a, b, c),
+            b'n' => self.lend(a, b, c),
+            b's' => self.lent.source = a,
+            b'r' => self.lent.room = a,
+            b'w' => set(&mut self.wanted, a, (q % 256) as u8),
+            b'm' => self.move_bytes(a, b, c),
+            _ => {}
         }
     }
 
     // The case's line behind its name.
-    pub(crate) fn shown(self) {
-        let i = self.inputs;
-        let o = self.outputs;
-        let n = self.items;
-        let s = self.source;
-        let w = self.wanted;
-        let mut out = [0u8; 1000];
-        let wanted = bytes(&w, 907);
+    pub(crate) fn show(&self) {
         let lent = self.lent;
-        let ins = numbers(&i, lent.inputs);
-        let outs = numbers(&o, lent.outputs);
-        let its = numbers(&n, lent.items);
-        let source = bytes(&s, lent.source);
-        let to = room(&mut out, lent.room);
-        show::line(self.head, ins, outs, its, source, wanted, to);
+        let given = Given {
+            head: self.head,
+            inputs: first(&self.tables.inputs, lent.inputs),
+            outputs: first(&self.tables.outputs, lent.outputs),
+            items: first(&self.tables.items, lent.items),
+            source: first(&self.source, lent.source),
+        };
+        let mut out = [0u8; 1000];
+        let n = lent.room.min(out.len());
+        given.line(&self.wanted, &mut out[..n]);
     }
 }
 
 // A transaction that is read, to be written back over its own bytes in exact room. What the reader says of it is tried by `decoders_main`.
 fn read(s: &[u8]) -> Load {
-    let mut i = [0u32; 60];
-    let mut o = [0u32; 56];
-    let mut n = [0u32; 8];
-    let r = TransactionDecoder::read(s, &mut i, &mut o, &mut n);
-    let a = r.answer;
-    let head = finished(a);
+    let mut tables = Tables::<60, 56, 8>::marked();
+    let r = tables.read(s);
     let bytes = spread(s);
-    let lent = Lent {
-        inputs: 60,
-        outputs: 56,
-        items: 8,
-        source: s.len(),
-        room: s.len(),
-    };
     Load {
-        head: head,
-        inputs: i,
-        outputs: o,
-        items: n,
+        head: finished(r.answer),
+        tables,
         source: bytes,
         wanted: bytes,
-        lent: lent,
+        lent: Lent {
+            inputs: 60,
+            outputs: 56,
+            items: 8,
+            source: s.len(),
+            room: s.len(),
+        },
     }
 }
 
@@ -296,7 +192,7 @@ pub(crate) fn full() -> Load {
 // The same, from a source that has the bodies alone, and # for every other byte.
 fn bodies() -> Load {
     let mut l = full();
-    let s = spread(
+    l.source = spread(
         b"######\
         GHIJKLMNOPQRSTUVWXYZabcdefghijkl#####rst####yz0123456789ABCDEFGHIJKLMNOPQRSTUVWXYZabcdefghijklmnopqrstuvwxyz##########ABCDEFGHIJKLMNOPQRSTUVWXYZabcdef\
         ghijklmnopqrstuvwxyz0123456789AB#########\
@@ -315,11 +211,10 @@ fn bodies() -> Load {
         #f#\
         ##jklm",
     );
-    l.source = s;
     l
 }
 
-// 01's load of 11 bytes.
+// 01's load of 11 bytes. Each load is a name and its bytes: what is the same in them is `read`.
 fn empty() -> Load {
     read(b"\x02\x00\x00\x00\x00\x00\x00\x00\x00\x00\x00")
 }

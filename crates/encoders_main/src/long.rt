@@ -1,34 +1,38 @@
 // Loads that are too large for the cases: counts and lengths of several bytes, sources and outputs about 4,000,000 bytes.
-use crate::{load, show};
-use decoders::{Head, TransactionDecoder};
+use crate::load;
+use crate::show::Given;
+use decoders::Head;
+use trial::Tables;
 
 // Reads, and writes back.
-fn again(
+fn again<const I: usize, const O: usize, const N: usize>(
     name: &[u8],
     s: &[u8],
-    inputs: &mut [u32],
-    outputs: &mut [u32],
-    items: &mut [u32],
+    mut t: Tables<I, O, N>,
     out: &mut [u8],
 ) {
     trial::text(name);
-    let r = TransactionDecoder::read(s, inputs, outputs, items);
-    let a = r.answer;
-    let head = load::finished(a);
-    show::line(head, inputs, outputs, items, s, s, out);
+    let r = t.read(s);
+    let given = Given {
+        head: load::finished(r.answer),
+        inputs: &t.inputs,
+        outputs: &t.outputs,
+        items: &t.items,
+        source: s,
+    };
+    given.line(s, out);
 }
 
-// 01's load of 256 inputs, all 0, and five bytes more of room.
+// 01's load of 256 inputs, all 0, and five bytes more of room. This, `outputs` and `items` share `again`; the rest is sizes and bytes, each its
+// own, and a const parameter for a size may not be computed from another.
 fn inputs() {
     let mut s = [0u8; 10509];
     s[0] = 2;
     s[5] = 0xfd;
     s[7] = 1;
-    let mut i = [0u32; 5120];
-    let mut o = [0u32; 14];
-    let mut n = [0u32; 2];
+    let t = Tables::<5120, 14, 2>::marked();
     let mut out = [0u8; 10514];
-    again(b"256 inputs:", &s, &mut i, &mut o, &mut n, &mut out);
+    again(b"256 inputs:", &s, t, &mut out);
 }
 
 // 256 null outputs.
@@ -37,11 +41,9 @@ fn outputs() {
     s[0] = 2;
     s[6] = 0xfd;
     s[8] = 1;
-    let mut i = [0u32; 20];
-    let mut o = [0u32; 3584];
-    let mut n = [0u32; 2];
+    let t = Tables::<20, 3584, 2>::marked();
     let mut out = [0u8; 1042];
-    again(b"256 outputs:", &s, &mut i, &mut o, &mut n, &mut out);
+    again(b"256 outputs:", &s, t, &mut out);
 }
 
 // One input with 256 empty items.
@@ -52,11 +54,9 @@ fn items() {
     s[5] = 1;
     s[54] = 0xfd;
     s[56] = 1;
-    let mut i = [0u32; 20];
-    let mut o = [0u32; 14];
-    let mut n = [0u32; 512];
+    let t = Tables::<20, 14, 512>::marked();
     let mut out = [0u8; 319];
-    again(b"256 items:", &s, &mut i, &mut o, &mut n, &mut out);
+    again(b"256 items:", &s, t, &mut out);
 }
 
 pub(crate) fn many() {
@@ -69,10 +69,10 @@ pub(crate) fn many() {
 fn head(flag: u32, items: u32) -> Head {
     Head {
         version: 2,
-        flag: flag,
+        flag,
         inputs: 1,
         outputs: 0,
-        items: items,
+        items,
         locktime: 0,
         bytes: 0,
     }
@@ -87,25 +87,30 @@ fn input(txid: u32, script: u32, length: u32) -> [u32; 20] {
     r
 }
 
+// What a writing of this one input is given.
+fn given<'a>(head: Head, r: &'a [u32; 20], items: &'a [u32], source: &'a [u8]) -> Given<'a> {
+    Given {
+        head,
+        inputs: r,
+        outputs: &[],
+        items,
+        source,
+    }
+}
+
 // An input whose script is too long to be written here: only its length is asked for, and its refusals.
 fn scripted(name: &[u8], flag: u32, r: [u32; 20], source: &[u8]) {
-    let none = [0u32; 0];
     let mut out = [0u8; 60];
     trial::text(name);
-    show::line(
-        head(flag, 0),
-        &r,
-        &none,
-        &none,
-        source,
+    given(head(flag, 0), &r, &[], source).line(
         b"\x02\x00\x00\x00\x00\x01ssssssssssssssssssssssssssssssss\x00\x00\x00\x00\x00\xfe\xff\xff\xff\x00\x00\x00\x00\x00",
         &mut out,
     );
 }
 
 // Made apart, so that its bytes are not looked at where it is lent.
-fn letters() -> [u8; 4000033] {
-    [b's'; 4000033]
+fn alike<const L: usize>(b: u8) -> [u8; L] {
+    [b; L]
 }
 
 // With a script of n bytes, in five bytes of length, 56 + n are written. 8 before 2 before 14.
@@ -130,45 +135,30 @@ fn scripts(s: &[u8]) {
 
 // A source longer than 4,000,000 bytes, all s.
 pub(crate) fn sources() {
-    let s = letters();
+    let s = alike::<4000033>(b's');
     scripts(&s);
+}
+
+// A script of so many bytes, from a source that is all s.
+fn sized(name: &[u8], length: u32, s: &[u8], out: &mut [u8]) {
+    given(head(0, 0), &input(0, 32, length), &[], s).sums(name, out);
 }
 
 // Scripts whose lengths are written in one, three and five bytes.
 pub(crate) fn lengths() {
     let s = [b's'; 65568];
-    let none = [0u32; 0];
     let mut out = [0u8; 65600];
-    let a = input(0, 32, 252);
-    show::sums(b"script of 252:", head(0, 0), &a, &none, &s, &mut out);
-    let b = input(0, 32, 253);
-    show::sums(b"script of 253:", head(0, 0), &b, &none, &s, &mut out);
-    let c = input(0, 32, 65535);
-    show::sums(b"script of 65535:", head(0, 0), &c, &none, &s, &mut out);
-    let d = input(0, 32, 65536);
-    show::sums(b"script of 65536:", head(0, 0), &d, &none, &s, &mut out);
+    sized(b"script of 252:", 252, &s, &mut out);
+    sized(b"script of 253:", 253, &s, &mut out);
+    sized(b"script of 65535:", 65535, &s, &mut out);
+    sized(b"script of 65536:", 65536, &s, &mut out);
 }
 
 // Seven script items of 500,000 bytes and a pegin item of so many, all from the same source: 96 bytes more are written.
 fn eight(last: u32) -> [u32; 16] {
-    let mut t = [0u32; 16];
-    t[1] = 500000;
-    t[3] = 500000;
-    t[5] = 500000;
-    t[7] = 500000;
-    t[9] = 500000;
-    t[11] = 500000;
-    t[13] = 500000;
-    t[15] = last;
-    t
-}
-
-fn less_letters() -> [u8; 500000] {
-    [b's'; 500000]
-}
-
-fn bytes() -> [u8; 4000001] {
-    [0u8; 4000001]
+    [
+        0, 500000, 0, 500000, 0, 500000, 0, 500000, 0, 500000, 0, 500000, 0, 500000, 0, last,
+    ]
 }
 
 // 4,000,000 bytes are written, 4,000,001 are not.
@@ -176,15 +166,13 @@ fn eights(s: &[u8], out: &mut [u8]) {
     let mut r = input(0, 0, 0);
     r[18] = 7;
     r[19] = 1;
-    let a = eight(499904);
-    show::sums(b"4000000 bytes:", head(1, 8), &r, &a, s, out);
-    let b = eight(499905);
-    show::sums(b"4000001 bytes:", head(1, 8), &r, &b, s, out);
+    given(head(1, 8), &r, &eight(499904), s).sums(b"4000000 bytes:", out);
+    given(head(1, 8), &r, &eight(499905), s).sums(b"4000001 bytes:", out);
 }
 
 // An output with one byte behind the limit.
 pub(crate) fn limit() {
-    let s = less_letters();
-    let mut out = bytes();
+    let s = alike::<500000>(b's');
+    let mut out = alike::<4000001>(0);
     eights(&s, &mut out);
 }

@@ -1,42 +1,22 @@
 // One line for a case: what `write` answers, what `written_length` answers, and what the output holds after it. An answer is its number, its
 // place and its length, as 01 has them: 0, 0 and the written length, or the refusal's number, its place, and 0.
 use decoders::Head;
-use encoders::Written;
+use encode::Refusal;
 
 // What every byte of an output is before a writing.
 const MARK: u8 = 0xaa;
 
-fn fill(s: &mut [u8]) {
-    let mut k = 0;
-    while k < s.len() {
-        s[k] = MARK;
-        k += 1;
-    }
+// What a writing is given.
+#[derive(Clone, Copy)]
+pub(crate) struct Given<'a> {
+    pub(crate) head: Head,
+    pub(crate) inputs: &'a [u32],
+    pub(crate) outputs: &'a [u32],
+    pub(crate) items: &'a [u32],
+    pub(crate) source: &'a [u8],
 }
 
-fn marked(s: &[u8]) -> bool {
-    let mut k = 0;
-    while k < s.len() {
-        if s[k] != MARK {
-            return false;
-        }
-        k += 1;
-    }
-    true
-}
-
-// Whether the first n bytes are the same.
-fn same(s: &[u8], t: &[u8], n: usize) -> bool {
-    let mut k = 0;
-    while k < n && k < s.len() && k < t.len() {
-        if s[k] != t[k] {
-            return false;
-        }
-        k += 1;
-    }
-    k == n
-}
-
+// The three numbers of a line. 0 is no RefusalKind, and both ends of a writing print all three.
 fn answer(no: usize, place: usize, length: usize) {
     trial::number(no);
     trial::text(b" ");
@@ -45,15 +25,15 @@ fn answer(no: usize, place: usize, length: usize) {
     trial::number(length);
 }
 
-// The written length, 0 for a refusal.
-fn told(w: Written) -> usize {
+// The written length, 0 for a refusal. Its number and place have no ` at ` between them here, so Refusal's Display isn't it.
+fn told(w: Result<usize, Refusal>) -> usize {
     match w {
-        Written::Done(n) => {
+        Ok(n) => {
             answer(0, 0, n);
             n
         }
-        Written::Refused(no, place) => {
-            answer(no, place, 0);
+        Err(refusal) => {
+            answer(refusal.kind.number(), refusal.place, 0);
             0
         }
     }
@@ -61,11 +41,15 @@ fn told(w: Written) -> usize {
 
 // The output after a writing of n bytes, 0 for a refused one.
 fn left(n: usize, out: &[u8], wanted: &[u8]) {
-    if !same(out, wanted, n) {
+    let Some((written, kept)) = out.split_at_checked(n) else {
+        trial::text(b", WRONG BYTES\n");
+        return;
+    };
+    if !wanted.starts_with(written) {
         trial::text(b", WRONG BYTES\n");
         return;
     }
-    if out.len() < n || !marked(&out[n..]) {
+    if !kept.iter().all(|b| *b == MARK) {
         trial::text(b", TOUCHED\n");
         return;
     }
@@ -74,46 +58,13 @@ fn left(n: usize, out: &[u8], wanted: &[u8]) {
         return;
     }
     trial::text(b", same bytes, ");
-    trial::number(out.len() - n);
+    trial::number(kept.len());
     trial::text(b" kept behind\n");
-}
-
-// Writes into the output, every byte of it marked before.
-pub(crate) fn line(
-    head: Head,
-    inputs: &[u32],
-    outputs: &[u32],
-    items: &[u32],
-    source: &[u8],
-    wanted: &[u8],
-    out: &mut [u8],
-) {
-    trial::text(b" ");
-    fill(out);
-    let w = encoders::write(head, inputs, outputs, items, source, out);
-    let n = told(w);
-    trial::text(b", alone ");
-    let alone = encoders::written_length(head, inputs, outputs, items, source);
-    told(alone);
-    left(n, out, wanted);
 }
 
 // How many bytes are this one.
 fn count(s: &[u8], b: u8) -> usize {
-    let mut n: usize = 0;
-    let mut k = 0;
-    while k < s.len() {
-        if s[k] == b {
-            n = std::num::wrapping_add_usize(n, 1);
-        }
-        k += 1;
-    }
-    n
-}
-
-fn spaced(b: u8) {
-    trial::text(b" ");
-    trial::number(b as usize);
+    s.iter().filter(|x| **x == b).count()
 }
 
 // The output after a writing from a source that has only s: how many bytes are s, how many still have their mark, and the five bytes at 42.
@@ -124,32 +75,49 @@ fn counted(out: &[u8]) {
     trial::number(count(out, MARK));
     trial::text(b", bytes at 42");
     if 47 <= out.len() {
-        spaced(out[42]);
-        spaced(out[43]);
-        spaced(out[44]);
-        spaced(out[45]);
-        spaced(out[46]);
+        for b in &out[42..47] {
+            trial::text(b" ");
+            trial::number(usize::from(*b));
+        }
     }
     trial::text(b"\n");
 }
 
-// One input and no output, into an output that is too large to be compared: its bytes are counted.
-pub(crate) fn sums(
-    name: &[u8],
-    head: Head,
-    input: &[u32],
-    items: &[u32],
-    source: &[u8],
-    out: &mut [u8],
-) {
-    let none = [0u32; 0];
-    trial::text(name);
-    trial::text(b" ");
-    fill(out);
-    let w = encoders::write(head, input, &none, items, source, out);
-    told(w);
-    trial::text(b", alone ");
-    let alone = encoders::written_length(head, input, &none, items, source);
-    told(alone);
-    counted(out);
+impl Given<'_> {
+    // Writes into the output, every byte of it marked before, and asks for the length alone; the bytes written, 0 for a refusal.
+    fn written(self, out: &mut [u8]) -> usize {
+        trial::text(b" ");
+        out.fill(MARK);
+        let w = encoders::write(
+            self.head,
+            self.inputs,
+            self.outputs,
+            self.items,
+            self.source,
+            out,
+        );
+        let n = told(w);
+        trial::text(b", alone ");
+        let alone = encoders::written_length(
+            self.head,
+            self.inputs,
+            self.outputs,
+            self.items,
+            self.source,
+        );
+        told(alone);
+        n
+    }
+
+    pub(crate) fn line(self, wanted: &[u8], out: &mut [u8]) {
+        let n = self.written(out);
+        left(n, out, wanted);
+    }
+
+    // Into an output that is too large to be compared: its bytes are counted.
+    pub(crate) fn sums(self, name: &[u8], out: &mut [u8]) {
+        trial::text(name);
+        self.written(out);
+        counted(out);
+    }
 }

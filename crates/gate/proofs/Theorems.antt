@@ -21,11 +21,11 @@ use Rattle.gate.proofs.Hearing.{Heard, fresh_heard, fresh_sizes, heard_on, settl
 
 -- what `listen` does, piece by piece; the list's end is the input's
 unfoldable pub listening : State → Tables → List (List ℕ) → Line
-listening s u [] = verdict_of (ended s u).fed.answer s.taken false
+listening s u [] = verdict_of (ended s u).answer s.taken false
 listening s u (p ∷ ps) =
-    cond (ltb (pushed s u p).fed.taken (length p)) (verdict_of (pushed s u p).fed.answer (pushed s u p).fed.decoder.taken true)
-    (cond (is_refused (pushed s u p).fed.answer) (verdict_of (pushed s u p).fed.answer (pushed s u p).fed.decoder.taken false)
-    (listening (pushed s u p).fed.decoder (pushed s u p).tables ps))
+    cond (ltb (pushed s u p).taken (length p)) (verdict_of (pushed s u p).answer (pushed s u p).state.taken true)
+    (cond (is_refused (pushed s u p).answer) (verdict_of (pushed s u p).answer (pushed s u p).state.taken false)
+    (listening (pushed s u p).state (pushed s u p).tables ps))
 
 -- each piece is some bytes: a read that brings none is the end
 abbrev pub Pieces : List (List ℕ) → Type 0
@@ -34,15 +34,15 @@ Pieces (p ∷ ps) = Bytes p × ((1 ≤ length p) × Pieces ps)
 
 listening_strict : (ps : List (List ℕ)) → Pieces ps → (t u : Tables) (s : State) (h : Heard t s u) → listening s u ps ≡ line_of (strict (layout_sizes t) (h.read ++ join ps)).answer
 unfolding listening join heard_on settled_follows settled_refused heard_ends
-listening_strict [] w t u s h = (heard_ends t u _ s _ h refl).told ∙ ap (λ (xs : List ℕ). line_of (strict (layout_sizes t) xs).answer) (sym (append-nil h.read))
+listening_strict [] w t u s h = (heard_ends t u s _ h refl).told ∙ ap (λ (xs : List ℕ). line_of (strict (layout_sizes t) xs).answer) (sym (append-nil h.read))
 listening_strict (p ∷ ps) (q, (some, more)) t u s h =
     let joined : (h.read ++ p) ++ join ps ≡ h.read ++ (p ++ join ps) = append_assoc h.read p (join ps) in
     let o = pushed s u p in
-    by_cases (ltb o.fed.taken (length p))
-    (λ w. rw w ((settled_follows t u o.tables s p q o.fed h refl (ltb-true o.fed.taken (length p) w)).told (join ps) ∙ ap (λ (xs : List ℕ). line_of (strict (layout_sizes t) xs).answer) joined))
-    (λ w. by_cases (is_refused o.fed.answer)
-    (λ k. rw (w, k) ((settled_refused t u o.tables s p q o.fed h refl k).told (join ps) ∙ ap (λ (xs : List ℕ). line_of (strict (layout_sizes t) xs).answer) joined))
-    (λ k. rw (w, k) (listening_strict ps more t o.tables o.fed.decoder (heard_on t u o.tables s p q o.fed h refl some (ltb-false o.fed.taken (length p) w)) ∙ ap (λ (xs : List ℕ). line_of (strict (layout_sizes t) xs).answer) joined)))
+    by_cases (ltb o.taken (length p))
+    (λ w. rw w ((settled_follows t u s p q o h refl (ltb-true o.taken (length p) w)).told (join ps) ∙ ap (λ (xs : List ℕ). line_of (strict (layout_sizes t) xs).answer) joined))
+    (λ w. by_cases (is_refused o.answer)
+    (λ k. rw (w, k) ((settled_refused t u s p q o h refl k).told (join ps) ∙ ap (λ (xs : List ℕ). line_of (strict (layout_sizes t) xs).answer) joined))
+    (λ k. rw (w, k) (listening_strict ps more t o.tables o.state (heard_on t u s p q o h refl some (ltb-false o.taken (length p) w)) ∙ ap (λ (xs : List ℕ). line_of (strict (layout_sizes t) xs).answer) joined)))
 
 -- from a fresh start, whatever the pieces: the line is the strict form's of the joined bytes
 pub gate_strict : (t : Tables) (ps : List (List ℕ)) → Pieces ps → listening (begun t).state (begun t).tables ps ≡ line_of (strict (layout_sizes t) (join ps)).answer

@@ -1,5 +1,5 @@
 -- The gate's line as text: decimal digits, one space between, a line feed after. Assumes nothing.
-use Rattle.std.specs.Prelude.{ℕ, zero, suc, ◌+◌, ◌/◌, ◌%◌, ◌≡◌, cond, List, [], ◌∷◌, ◌++◌, ltb, length, take, drop}
+use Rattle.std.specs.Prelude.{ℕ, zero, suc, ◌+◌, ◌/◌, ◌%◌, cond, List, [], ◌∷◌, ◌++◌, ltb}
 use Rattle.gate.specs.declared.Line.{Line}
 
 -- A number's decimal digits in ASCII, where `0` is 48, in so many places at most: below ten it is one digit; else the digits of its tenth part,
@@ -21,8 +21,3 @@ line_feed = 10 ∷ []
 abbrev pub line_bytes : Line → List ℕ
 line_bytes l =
     decimal l.number ++ space ++ decimal l.place ++ space ++ decimal l.inputs ++ space ++ decimal l.outputs ++ space ++ decimal l.items ++ line_feed
-
--- the bytes stand in the text from k on, all else is as it was; n is where the next ones go
-pub record Puts (bytes text : List ℕ) (k : ℕ) (text' : List ℕ) (n : ℕ) : Type 0 where
-  pub next : n ≡ k + length bytes
-  pub same : text' ≡ take k text ++ (bytes ++ drop n text)

@@ -3,19 +3,22 @@
 
 mod text;
 
-ghost use Rattle.std.specs.Prelude.{◌≡◌};
-ghost use Rattle.decoders.specs.Feeding.{tables, layout_sizes};
+ghost use Rattle.std.specs.Prelude.{◌≡◌, IfOk};
+ghost use Rattle.decoders.specs.Feeding.{told, tables, layout_sizes};
+ghost use Rattle.encode.specs.Refusal.{number_of};
 ghost use Rattle.gate.specs.Verdict.{is_refused, verdict_of, Judged, Spoken, Printed};
 
-use decoders::{Answer, TransactionDecoder};
+use decoders::{Answer, Refusal, RefusalKind, TransactionDecoder};
 use std::env::{Env, FillError};
-use std::io::{Print, Read, Stdin};
+use std::io::{Error, Print, Read, Stdin};
+use text::Text;
 
 const STDERR_FILENO: i32 = 2;
 
 // The five numbers that are printed.
 #[derive(Clone, Copy)]
 pub struct Line {
+    // 0 where it is accepted: a number, since it is printed, and `line_of` and the theorems on it say so
     pub number: usize,
     pub place: usize,
     pub inputs: u32,
@@ -23,69 +26,47 @@ pub struct Line {
     pub items: u32,
 }
 
-// What came of the input. Settled: before its end, and whatever follows. Failed: a read failed, so nothing is known.
-#[derive(Clone, Copy)]
-pub enum Seen {
-    Ended(Line),
-    Settled(Line),
-    Failed,
-}
-
-// The same, where the line stands in the text: its first bytes, so many of them.
-#[derive(Clone, Copy)]
-pub enum Said {
-    Ended(usize),
-    Settled(usize),
-    Failed,
+// What came of an input that could be read, and what is told of it. Settled: before its end, and whatever follows.
+#[derive(Drop)]
+pub enum Seen<T> {
+    Ended(T),
+    Settled(T),
 }
 
 fn is_refused(answer: Answer) -> bool
-    ensures { result ≡ is_refused answer }
+    ensures { result ≡ is_refused (told answer) }
 {
-    match answer {
-        Answer::Finished(_) => false,
-        Answer::More => false,
-        Answer::Refused(_, _) => true,
+    matches!(answer, Answer::Refused(_))
+}
+
+// A refusal's line, which counts nothing.
+fn refused(refusal: Refusal) -> Line
+    ensures { result ≡ record { number = number_of refusal.kind; place = refusal.place; inputs = 0; outputs = 0; items = 0 } }
+{
+    Line {
+        number: refusal.kind.number(),
+        place: refusal.place,
+        inputs: 0,
+        outputs: 0,
+        items: 0,
     }
 }
 
-// The line of an answer after so many bytes taken, and whether bytes follow these. Where more is wanted, it is finishing's 1.
+// The line of an answer after so many bytes taken, and whether bytes follow these. Where more is wanted, it is finishing's refusal.
 fn verdict(answer: Answer, taken: usize, follows: bool) -> Line
-    ensures { result ≡ verdict_of answer taken follows }
+    ensures { result ≡ verdict_of (told answer) taken follows }
 {
     match answer {
-        Answer::Finished(head) => {
-            if follows {
-                return Line {
-                    number: 9,
-                    place: taken,
-                    inputs: 0,
-                    outputs: 0,
-                    items: 0,
-                };
-            }
-            Line {
-                number: 0,
-                place: 0,
-                inputs: head.inputs,
-                outputs: head.outputs,
-                items: head.items,
-            }
-        }
-        Answer::More => Line {
-            number: 1,
-            place: taken,
-            inputs: 0,
-            outputs: 0,
-            items: 0,
+        Answer::Finished(_) if follows => refused(RefusalKind::BytesFollow.at(taken)),
+        Answer::Finished(head) => Line {
+            number: 0,
+            place: 0,
+            inputs: head.inputs,
+            outputs: head.outputs,
+            items: head.items,
         },
-        Answer::Refused(number, place) => Line {
-            number: number,
-            place: place,
-            inputs: 0,
-            outputs: 0,
-            items: 0,
-        },
+        Answer::More => refused(RefusalKind::EndsEarly.at(taken)),
+        Answer::Refused(refusal) => refused(refusal),
     }
 }
 
@@ -97,62 +78,52 @@ fn listen(
     inputs: &mut [u32],
     outputs: &mut [u32],
     items: &mut [u32],
-) -> Seen
-    ensures { Judged (layout_sizes (tables inputs.old outputs.old items.old)) result }
+) -> Result<Seen<Line>, Error>
+    ensures { IfOk result (Judged (layout_sizes (tables inputs.old outputs.old items.old))) }
 {
     let mut decoder = TransactionDecoder::new(inputs, outputs, items);
+    // a loop: each read lends the buffer anew, so no iterator hands its pieces out
     loop {
-        let n = match input.read(buffer) {
-            Ok(n) => n,
-            Err(_) => return Seen::Failed,
-        };
+        let n = input.read(buffer)?;
         if n == 0 {
             let last = decoder.end(inputs, outputs, items);
             let answer = last.answer;
             let line = verdict(answer, decoder.taken, false);
-            return Seen::Ended(line);
+            return Ok(Seen::Ended(line));
         }
         let fed = decoder.push_bytes(&buffer[..n], inputs, outputs, items);
         let next = fed.decoder;
         let answer = fed.answer;
         if fed.taken < n {
             let line = verdict(answer, next.taken, true);
-            return Seen::Settled(line);
+            return Ok(Seen::Settled(line));
         }
         if is_refused(answer) {
             let line = verdict(answer, next.taken, false);
-            return Seen::Settled(line);
+            return Ok(Seen::Settled(line));
         }
         decoder = next;
     }
 }
 
-// Listens, and puts the line into the text.
+// Listens, and puts the line into a text.
 fn answer(
     input: Stdin,
     buffer: &mut [u8],
     inputs: &mut [u32],
     outputs: &mut [u32],
     items: &mut [u32],
-    text: &mut [u8; 105],
-) -> Said
-    ensures { Spoken (layout_sizes (tables inputs.old outputs.old items.old)) text.new result }
+) -> Result<Seen<Text>, Error>
+    ensures { IfOk result (Spoken (layout_sizes (tables inputs.old outputs.old items.old))) }
 {
-    let seen = listen(input, buffer, inputs, outputs, items);
-    match seen {
-        Seen::Ended(line) => {
-            let n = text::put_line(line, text);
-            Said::Ended(n)
-        }
-        Seen::Settled(line) => {
-            let n = text::put_line(line, text);
-            Said::Settled(n)
-        }
-        Seen::Failed => Said::Failed,
-    }
+    let seen = listen(input, buffer, inputs, outputs, items)?;
+    Ok(match seen {
+        Seen::Ended(line) => Seen::Ended(text::put_line(line)),
+        Seen::Settled(line) => Seen::Settled(text::put_line(line)),
+    })
 }
 
-// One write. A line that was cut short is none, so it is told as a write that failed.
+// One write, not io's own, which goes on after a part. A line that was cut short is none, so it is told as a write that failed.
 fn print(rt: &HostRuntime, line: &[u8])
     requires { Printed line.now }
 {
@@ -181,19 +152,18 @@ fn main(rt: HostRuntime) {
     let mut inputs: [u32; 1280] = [0; 1280];
     let mut outputs: [u32; 896] = [0; 896];
     let mut items: [u32; 512] = [0; 512];
-    let mut text = [0u8; 105];
     let said = answer(
         rt.stdin(),
         &mut buffer,
         &mut inputs,
         &mut outputs,
         &mut items,
-        &mut text,
     );
+    // two arms: where one takes both by `|`, what `print` requires can be proved by names of the check's own alone
     match said {
-        Said::Ended(n) => print(&rt, &text[..n]),
-        Said::Settled(n) => print(&rt, &text[..n]),
-        Said::Failed => {
+        Ok(Seen::Ended(text)) => print(&rt, text.as_slice()),
+        Ok(Seen::Settled(text)) => print(&rt, text.as_slice()),
+        Err(_) => {
             io::write_all(STDERR_FILENO, b"gate: standard input could not be read\n");
         }
     }

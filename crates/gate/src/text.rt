@@ -1,47 +1,34 @@
 // The line as text.
-ghost use Rattle.std.specs.Prelude.{◌≡◌, ◌∷◌, [], ◌++◌, ◌+◌, ◌≤◌, length, drop};
-ghost use Rattle.gate.specs.Text.{decimal, line_bytes, Puts};
+ghost use Rattle.std.specs.Prelude.{◌≡◌, ◌∷◌, [], ◌++◌, ◌+◌, ◌≤◌};
+ghost use Rattle.arrayvec.specs.ArrayVec.{array_vec_len};
+ghost use Rattle.gate.specs.Text.{decimal, line_bytes};
 
 use crate::Line;
+use arrayvec::ArrayVec;
 
-fn put_byte(b: u8, text: &mut [u8], k: usize) -> usize
-    requires { k + 1 ≤ length text.old }
-    ensures { Puts (b ∷ []) text.old k text.new result }
-{
-    text[k] = b;
-    k + 1
-}
+// Five numbers of 20 digits at most, and a byte behind each.
+pub type Text = ArrayVec<u8, 105>;
 
-fn put_part(part: &[u8], text: &mut [u8], k: usize) -> usize
-    requires { k + length part.now ≤ length text.old }
-    ensures { Puts part.now text.old k text.new result }
-{
-    let mut i = 0;
-    while i < part.len() {
-        text[k + i] = part[i];
-        i += 1;
-    }
-    k + i
-}
-
-// The digits of a number at k, and one byte behind them: 21 bytes at most.
-fn put_number(n: u64, behind: u8, text: &mut [u8], k: usize) -> usize
-    requires { k + 21 ≤ length text.old }
-    ensures { Puts (decimal n ++ (behind ∷ [])) text.old k text.new result × (result ≤ k + 21) }
+// The digits of a number, and one byte behind them: 21 bytes at most.
+fn put_number(text: &mut Text, n: u64, behind: u8)
+    requires { array_vec_len text.old + 21 ≤ 105 }
+    ensures bytes { text.new.items ≡ text.old.items ++ (decimal n ++ behind ∷ []) }
+    ensures room { array_vec_len text.new ≤ array_vec_len text.old + 21 }
 {
     let mut digits = [0u8; 20];
     let count = io::decimal(n, &mut digits);
-    let end = put_part(&digits[..count], text, k);
-    put_byte(behind, text, end)
+    text.try_extend_from_slice(&digits[..count]).unwrap();
+    text.push(behind);
 }
 
-// The line at the text's start, and how many bytes it has. What stands behind it stays.
-pub(crate) fn put_line(line: Line, text: &mut [u8; 105]) -> usize
-    ensures { (result ≡ length (line_bytes line)) × (text.new ≡ line_bytes line ++ drop result text.old) }
+pub(crate) fn put_line(line: Line) -> Text
+    ensures { result.items ≡ line_bytes line }
 {
-    let place = put_number(line.number as u64, b' ', text, 0);
-    let inputs = put_number(line.place as u64, b' ', text, place);
-    let outputs = put_number(line.inputs as u64, b' ', text, inputs);
-    let items = put_number(line.outputs as u64, b' ', text, outputs);
-    put_number(line.items as u64, b'\n', text, items)
+    let mut text = Text::new();
+    put_number(&mut text, line.number as u64, b' ');
+    put_number(&mut text, line.place as u64, b' ');
+    put_number(&mut text, u64::from(line.inputs), b' ');
+    put_number(&mut text, u64::from(line.outputs), b' ');
+    put_number(&mut text, u64::from(line.items), b'\n');
+    text
 }

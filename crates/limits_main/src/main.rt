@@ -2,9 +2,7 @@
 // 01 gives. The first input's script has 3,999,744 + low bytes, all from one buffer; what lies behind it comes up to the limit.
 #![tactic(auto)]
 
-fn wide(b: u8) -> usize {
-    b as usize
-}
+use trial::Reading;
 
 // 47 bytes: version 2, the flag, so many inputs, txid, vout with its highest byte, and the script's length, 0x003d0800 + low, in five bytes.
 fn head(flag: u8, inputs: u8, top: u8, low: u8) -> [u8; 47] {
@@ -24,13 +22,10 @@ fn head(flag: u8, inputs: u8, top: u8, low: u8) -> [u8; 47] {
 fn limit(flag: u8, inputs: u8, top: u8, low: u8, tail: &[u8]) {
     let start = head(flag, inputs, top, low);
     let buffer = [0xeeu8; 65536];
-    let mut i = [0u32; 40];
-    let mut o = [0u32; 14];
-    let mut n = [0u32; 2];
-    let count = std::num::wrapping_add_usize(3999744, wide(low));
-    let f = trial::long(&start, &buffer, count, tail, &mut i, &mut o, &mut n);
-    let a = f.answer;
-    trial::line(a, f.taken, &i, &o, &n);
+    let count = 3999744 + usize::from(low);
+    let mut r = Reading::<40, 14, 2>::new();
+    r.long(&start, &buffer, count, tail);
+    r.line();
 }
 
 fn counts_and_numbers() {
@@ -130,6 +125,7 @@ fn output_scripts() {
     );
 }
 
+// As `stacks`, three cases: they are lists of numbers, and what is the same in them is `limit`.
 fn second_inputs() {
     // a second input: txid one past; ending at 4,000,000; vout one past
     limit(

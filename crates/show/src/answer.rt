@@ -1,30 +1,30 @@
 // The first line, and the head numbers.
 use crate::field;
 use command::text;
-use decoders::Head;
+use decoders::{Head, Refusal, RefusalKind};
 
-// What 01's table says of a refusal by the strict form.
-fn words(number: usize) {
-    match number {
-        1 => text(b"more is wanted"),
-        2 => text(b"a fixed field or body would end past 4,000,000"),
-        3 => text(b"count or length not in shortest form"),
-        4 => text(
-            b"count exceeds the records left in its table; here is room for 1024 inputs, 1024 outputs, 8192 items",
-        ),
-        5 => text(b"prefix not listed"),
-        6 => text(b"issuance flag, null issuance"),
-        7 => text(b"witness flag above 1"),
-        8 => text(b"flag 1, all witnesses empty"),
-        9 => text(b"bytes follow"),
-        _ => text(b"not a number of the strict form"),
+// What 01's table says of a refusal by the strict form. It is no Display of RefusalKind: the room is this program's own.
+fn words(kind: RefusalKind) -> &'static [u8] {
+    match kind {
+        RefusalKind::EndsEarly => b"more is wanted",
+        RefusalKind::LimitPassed => b"a fixed field or body would end past 4,000,000",
+        RefusalKind::NotShortest => b"count or length not in shortest form",
+        RefusalKind::NoRecordLeft => {
+            b"count exceeds the records left in its table; here is room for 1024 inputs, 1024 outputs, 8192 items"
+        }
+        RefusalKind::BadPrefix => b"prefix not listed",
+        RefusalKind::NullIssuance => b"issuance flag, null issuance",
+        RefusalKind::BadFlag => b"witness flag above 1",
+        RefusalKind::EmptyWitnesses => b"flag 1, all witnesses empty",
+        RefusalKind::BytesFollow => b"bytes follow",
+        _ => b"not a number of the strict form",
     }
 }
 
-pub(crate) fn refused(number: usize, place: usize) {
-    command::refused(number, place);
+pub(crate) fn refused(refusal: Refusal) {
+    command::refused(refusal);
     text(b": ");
-    words(number);
+    text(words(refusal.kind));
     text(b"\n");
 }
 

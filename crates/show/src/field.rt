@@ -1,84 +1,55 @@
 // One line for a field, by its kind.
-ghost use Rattle.std.specs.Prelude.{◌≡◌, ◌+◌, ◌*◌, ◌<◌, ◌≤◌};
+ghost use Rattle.std.specs.Prelude.{◌≡◌, ◌+◌, ◌*◌};
 
 use command::text;
+use std::fmt::{InlineText, Write};
 
 // How many bytes of a body are shown.
 const SHOWN: usize = 32;
 
-pub(crate) fn wide(n: u32) -> usize
-    ensures { (result ≡ n) × (result < 4294967296) }
-{
-    n as usize
-}
-
-// A u64 from its halves.
+// A u64 from its halves: the library has no From for a pair.
 fn amount(high: u32, low: u32) -> u64
     ensures { result ≡ high * 4294967296 + low }
 {
-    (high as u64) * 4294967296 + low as u64
-}
-
-fn least(a: usize, b: usize) -> usize
-    ensures { (result ≤ a) × (result ≤ b) }
-{
-    if a < b { a } else { b }
-}
-
-fn digit(d: u8) -> u8 {
-    if d < 10 {
-        return b'0' + d;
-    }
-    if d < 16 {
-        return b'a' + (d - 10);
-    }
-    b'?'
+    u64::from(high) * 4294967296 + u64::from(low)
 }
 
 // The bytes of a body; none where it would pass the source.
 fn part(s: &[u8], at: usize, length: usize) -> &[u8] {
-    if at <= s.len() {
-        if length <= s.len() - at {
-            let end = at + length;
-            return &s[at..end];
-        }
-    }
-    &s[..0]
+    s.get(at..)
+        .and_then(|behind| behind.get(..length))
+        .unwrap_or(&[])
 }
 
 // Up to 32 bytes in hex, in the order in which they stand, and two dots where there are more.
 fn hex(body: &[u8]) {
-    let mut line = [0u8; 64];
-    let n = least(body.len(), SHOWN);
-    let mut k = 0;
-    while k < n {
-        let b = body[k];
-        line[k * 2] = digit(b / 16);
-        line[k * 2 + 1] = digit(b % 16);
-        k += 1;
+    let mut line = InlineText::<64>::new();
+    for b in body.iter().take(SHOWN) {
+        let _ = write!(line, "{b:02x}");
     }
-    let end = k * 2;
-    text(&line[..end]);
+    text(line.as_str().as_bytes());
     if SHOWN < body.len() {
         text(b"..");
     }
 }
 
+// As `place` and `prefix`, texts and a number that io prints: a type with a Display for each would be made here only to be printed here.
 pub(crate) fn number(name: &[u8], n: u32) {
     text(name);
-    command::number(n as u64);
+    command::number(u64::from(n));
     text(b"\n");
 }
 
 // The end of a line: a body in hex, where it has bytes.
 fn shown(body: &[u8]) {
-    if 0 < body.len() {
+    if !body.is_empty() {
         text(b": ");
         hex(body);
     }
     text(b"\n");
 }
 
+// The start of a line, by io too: see `number`.
 fn place(name: &[u8], at: usize) {
     text(name);
     text(b"at ");
@@ -98,16 +69,17 @@ pub(crate) fn body(name: &[u8], s: &[u8], at: u32, length: u32) {
         text(b"none\n");
         return;
     }
-    place(name, wide(at));
+    place(name, at as usize);
     text(b", length ");
-    command::number(length as u64);
-    shown(part(s, wide(at), wide(length)));
+    command::number(u64::from(length));
+    shown(part(s, at as usize, length as usize));
 }
 
+// The same, with the prefix before the place: see `number`.
 fn prefix(name: &[u8], n: u32, at: usize) {
     text(name);
     text(b"prefix ");
-    command::number(n as u64);
+    command::number(u64::from(n));
     text(b" at ");
     command::number(at as u64);
     text(b": ");
@@ -120,7 +92,7 @@ pub(crate) fn token(name: &[u8], s: &[u8], n: u32, at: usize) {
         text(b"null\n");
         return;
     }
-    hex(part(s, std::num::wrapping_add_usize(at, 1), 32));
+    hex(part(s, at.saturating_add(1), 32));
     text(b"\n");
 }
 

@@ -6,25 +6,18 @@ mod answer;
 mod field;
 mod record;
 
-use command::Taken;
-use decoders::{Answer, TransactionDecoder};
-
-// One byte more than a transaction can have: what follows moves no answer (proofs/Theorems: limit_settles).
-fn bytes() -> [u8; 4000001] {
-    [0u8; 4000001]
-}
+use decoders::{Answer, RefusalKind, TransactionDecoder};
 
 fn tables(source: &[u8], inputs: &mut [u32], outputs: &mut [u32], items: &mut [u32]) {
     let read = TransactionDecoder::read_strict(source, inputs, outputs, items);
-    let told = read.answer;
-    match told {
+    match read.answer {
         Answer::Finished(head) => {
             answer::finished(head);
             record::inputs(head.inputs, source, inputs, items);
             record::outputs(head.outputs, source, outputs);
         }
-        Answer::More => answer::refused(1, read.taken),
-        Answer::Refused(number, place) => answer::refused(number, place),
+        Answer::More => answer::refused(RefusalKind::EndsEarly.at(read.taken)),
+        Answer::Refused(refusal) => answer::refused(refusal),
     }
 }
 
@@ -36,21 +29,11 @@ fn transaction(source: &[u8]) {
     tables(source, &mut inputs, &mut outputs, &mut items);
 }
 
-fn input(rt: &HostRuntime, buffer: &mut [u8]) {
-    let taken = command::take(
-        rt,
+fn main(rt: HostRuntime) {
+    command::with_input(
+        &rt,
         b"usage: show [FILE]\n",
         b"Shows an Elements transaction to a person: whether it is accepted, or the refusal's number, place and words; where it is accepted, the head\nnumbers and every field of every input, output and item, each with its place. Bytes are shown in hex in wire order, as they stand in the\ntransaction: explorers show txids and asset ids reversed. FILE holds the bytes themselves, not hex. Without FILE, or with -, standard input is\nread. Room: 1024 inputs, 1024 outputs, 8192 items.\n",
-        buffer,
+        transaction,
     );
-    match taken {
-        Taken::Whole(n) => transaction(&buffer[..n]),
-        Taken::Longer => transaction(buffer),
-        Taken::Nothing => {}
-    }
-}
-
-fn main(rt: HostRuntime) {
-    let mut buffer = bytes();
-    input(&rt, &mut buffer);
 }

@@ -4,114 +4,57 @@
 #![tactic(auto)]
 
 use decoders::TransactionDecoder;
+use trial::{Reading, Tables};
 
 // Marks the tables, feeds a piece.
-fn feed(
+fn feed<const I: usize, const O: usize, const N: usize>(
+    t: &mut Tables<I, O, N>,
     d: TransactionDecoder,
     piece: &[u8],
-    i: &mut [u32],
-    o: &mut [u32],
-    n: &mut [u32],
 ) -> TransactionDecoder {
-    trial::mark(i, o, n);
-    let f = d.push_bytes(piece, i, o, n);
-    let a = f.answer;
-    trial::line(a, f.taken, i, o, n);
+    t.mark();
+    let f = t.push(d, piece);
+    t.line(f.answer, f.taken);
     f.decoder
 }
 
 // Marks the tables, finishes.
-fn finish(
+fn finish<const I: usize, const O: usize, const N: usize>(
+    t: &mut Tables<I, O, N>,
     d: TransactionDecoder,
-    i: &mut [u32],
-    o: &mut [u32],
-    n: &mut [u32],
 ) -> TransactionDecoder {
-    trial::mark(i, o, n);
-    let f = d.end(i, o, n);
-    let a = f.answer;
-    trial::line(a, f.taken, i, o, n);
+    t.mark();
+    let f = t.end(d);
+    t.line(f.answer, f.taken);
     f.decoder
 }
 
+type Room = Tables<20, 14, 2>;
+
 // A fresh start with room for one record each; the state does not depend on what the tables hold.
 fn fresh() -> TransactionDecoder {
-    let mut i = [0u32; 20];
-    let mut o = [0u32; 14];
-    let mut n = [0u32; 2];
-    TransactionDecoder::new(&mut i, &mut o, &mut n)
+    let mut t = Room::marked();
+    t.start()
 }
 
 // The same tables, marked, for each call.
 fn push(d: TransactionDecoder, piece: &[u8]) -> TransactionDecoder {
-    let mut i = [0u32; 20];
-    let mut o = [0u32; 14];
-    let mut n = [0u32; 2];
-    feed(d, piece, &mut i, &mut o, &mut n)
+    let mut t = Room::marked();
+    feed(&mut t, d, piece)
 }
 
 fn end(d: TransactionDecoder) -> TransactionDecoder {
-    let mut i = [0u32; 20];
-    let mut o = [0u32; 14];
-    let mut n = [0u32; 2];
-    finish(d, &mut i, &mut o, &mut n)
+    let mut t = Room::marked();
+    finish(&mut t, d)
 }
 
-// A number more or less in one table, or one number in all: a piece, and finish.
-fn more_inputs(d: TransactionDecoder) {
-    let mut i = [0u32; 21];
-    let mut o = [0u32; 14];
-    let mut n = [0u32; 2];
-    let e = feed(d, b"\x02", &mut i, &mut o, &mut n);
-    finish(e, &mut i, &mut o, &mut n);
-}
-
-fn less_inputs(d: TransactionDecoder) {
-    let mut i = [0u32; 19];
-    let mut o = [0u32; 14];
-    let mut n = [0u32; 2];
-    let e = feed(d, b"\x02", &mut i, &mut o, &mut n);
-    finish(e, &mut i, &mut o, &mut n);
-}
-
-fn more_outputs(d: TransactionDecoder) {
-    let mut i = [0u32; 20];
-    let mut o = [0u32; 15];
-    let mut n = [0u32; 2];
-    let e = feed(d, b"\x02", &mut i, &mut o, &mut n);
-    finish(e, &mut i, &mut o, &mut n);
-}
-
-fn less_outputs(d: TransactionDecoder) {
-    let mut i = [0u32; 20];
-    let mut o = [0u32; 13];
-    let mut n = [0u32; 2];
-    let e = feed(d, b"\x02", &mut i, &mut o, &mut n);
-    finish(e, &mut i, &mut o, &mut n);
-}
-
-fn more_items(d: TransactionDecoder) {
-    let mut i = [0u32; 20];
-    let mut o = [0u32; 14];
-    let mut n = [0u32; 3];
-    let e = feed(d, b"\x02", &mut i, &mut o, &mut n);
-    finish(e, &mut i, &mut o, &mut n);
-}
-
-fn less_items(d: TransactionDecoder) {
-    let mut i = [0u32; 20];
-    let mut o = [0u32; 14];
-    let mut n = [0u32; 1];
-    let e = feed(d, b"\x02", &mut i, &mut o, &mut n);
-    finish(e, &mut i, &mut o, &mut n);
-}
-
-fn nearly_none(d: TransactionDecoder) {
-    let mut i = [0u32; 1];
-    let mut o = [0u32; 0];
-    let mut n = [0u32; 0];
-    let e = feed(d, b"\x02", &mut i, &mut o, &mut n);
-    finish(e, &mut i, &mut o, &mut n);
+// Tables of another size: a piece, and finish.
+fn sized<const I: usize, const O: usize, const N: usize>(
+    mut t: Tables<I, O, N>,
+    d: TransactionDecoder,
+) {
+    let e = feed(&mut t, d, b"\x02");
+    finish(&mut t, e);
 }
 
 fn ended() {
@@ -139,28 +82,29 @@ fn ended() {
     )));
 }
 
+// A number more or less in one table, or one number in all.
 fn sizes() {
     let d = fresh();
-    more_inputs(d);
-    less_inputs(d);
-    more_outputs(d);
-    less_outputs(d);
-    more_items(d);
-    less_items(d);
-    nearly_none(d);
+    sized(Tables::<21, 14, 2>::marked(), d);
+    sized(Tables::<19, 14, 2>::marked(), d);
+    sized(Tables::<20, 15, 2>::marked(), d);
+    sized(Tables::<20, 13, 2>::marked(), d);
+    sized(Tables::<20, 14, 3>::marked(), d);
+    sized(Tables::<20, 14, 1>::marked(), d);
+    sized(Tables::<1, 0, 0>::marked(), d);
 }
 
 fn sizes_later() {
     // in the middle of a reading, after the end, after a refusal
     let m = push(fresh(), b"\x02\x00\x00\x00\x00\x01");
-    more_inputs(m);
+    sized(Tables::<21, 14, 2>::marked(), m);
     let f = push(fresh(), b"\x02\x00\x00\x00\x00\x00\x00\x00\x00\x00\x00");
-    less_items(f);
+    sized(Tables::<20, 14, 1>::marked(), f);
     let r = push(
         fresh(),
         b"\x02\x00\x00\x00\x00\x01eeeeeeeeeeeeeeeeeeeeeeeeeeeeeeee\x00\x00\x00\x80\x00\xfe\xff\xff\xffeeeeeeeeeeeeeeeeeeeeeeeeeeeeeeeeeeeeeeeeeeeeeeeeeeeeeeeeeeeeeeee\x00\x00",
     );
-    more_outputs(r);
+    sized(Tables::<20, 15, 2>::marked(), r);
 }
 
 // What a state that comes back from 10 or 11 is worth: it is the one that was handed in.
@@ -169,7 +113,7 @@ fn forged() {
     let mut d = fresh();
     d.field.stage = 27;
     let mut g = end(push(d, b"\x02\x00\x00\x00\x00\x00\x00\x00\x00\x00\x00"));
-    more_inputs(g);
+    sized(Tables::<21, 14, 2>::marked(), g);
     // the state came back unchanged: mended, it reads
     g.field.stage = 0;
     push(g, b"\x02\x00\x00\x00\x00\x00\x00\x00\x00\x00\x00");
@@ -207,73 +151,44 @@ fn out_of_range_ended() {
     end(b);
 }
 
-// A reading with its tables, as they are between calls.
-#[derive(Clone, Copy)]
-struct View {
-    decoder: TransactionDecoder,
-    inputs: [u32; 20],
-    outputs: [u32; 14],
-    items: [u32; 2],
-}
-
-// A fresh start on tables that held something else.
-fn viewed() -> View {
-    let mut i = [7u32; 20];
-    let mut o = [7u32; 14];
-    let mut n = [7u32; 2];
-    let d = TransactionDecoder::new(&mut i, &mut o, &mut n);
-    View {
-        decoder: d,
-        inputs: i,
-        outputs: o,
-        items: n,
-    }
-}
-
-fn next(v: View, piece: &[u8]) -> View {
-    let d = v.decoder;
-    let mut i = v.inputs;
-    let mut o = v.outputs;
-    let mut n = v.items;
-    let f = d.push_bytes(piece, &mut i, &mut o, &mut n);
-    let a = f.answer;
-    trial::line(a, f.taken, &i, &o, &n);
-    let e = f.decoder;
-    View {
-        decoder: e,
-        inputs: i,
-        outputs: o,
-        items: n,
-    }
-}
-
-// 01's load of 103 bytes, and its tables at many cuts: a number stands there from its field's last byte on. After 37 bytes, within the txid;
-// 38, the txid; 42, the vout; 43, the script; 46, within the sequence; 47, the sequence.
-fn input_shown() -> View {
-    let a = next(
-        viewed(),
+// 01's load of 103 bytes, and its tables at many cuts: a number stands there from its field's last byte on. The tables held something else, and
+// are now as they are between calls.
+fn shown() {
+    let mut r = Reading::<20, 14, 2>::new();
+    let cuts: [&[u8]; 22] = [
+        // after 37 bytes, within the txid; 38, the txid; 42, the vout; 43, the script; 46, within the sequence; 47, the sequence
         b"\x02\x00\x00\x00\x01\x01eeeeeeeeeeeeeeeeeeeeeeeeeeeeeee",
-    );
-    let b = next(next(a, b"e"), b"\x00\x00\x00\x00");
-    let c = next(next(b, b"\x00"), b"\xfe\xff\xff");
-    next(c, b"\xff")
-}
-
-// 48, the output count; 49, the asset's prefix; 81, its part; 82, the value's prefix; 89, within the amount; 90, the amount; 91, the nonce's
-// prefix; 92, the script.
-fn output_shown(v: View) -> View {
-    let a = next(next(v, b"\x01"), b"\x01");
-    let b = next(next(a, b"eeeeeeeeeeeeeeeeeeeeeeeeeeeeeeee"), b"\x01");
-    let c = next(next(b, b"\x00\x00\x00\x00\x00\x00\x01"), b"\x90");
-    next(next(c, b"\x00"), b"\x00")
-}
-
-// 96, the locktime; 97 and 98, the input's proofs; 99, the script count; 100, the item; 101, the pegin count; 102 and 103, the output's proofs.
-fn witness_shown(v: View) {
-    let a = next(next(v, b"\x00\x00\x00\x00"), b"\x00");
-    let b = next(next(a, b"\x00"), b"\x01");
-    let c = next(next(b, b"\x00"), b"\x00");
-    next(next(c, b"\x00"), b"\x00");
+        b"e",
+        b"\x00\x00\x00\x00",
+        b"\x00",
+        b"\xfe\xff\xff",
+        b"\xff",
+        // 48, the output count; 49, the asset's prefix; 81, its part; 82, the value's prefix; 89, within the amount; 90, the amount; 91, the
+        // nonce's prefix; 92, the script
+        b"\x01",
+        b"\x01",
+        b"eeeeeeeeeeeeeeeeeeeeeeeeeeeeeeee",
+        b"\x01",
+        b"\x00\x00\x00\x00\x00\x00\x01",
+        b"\x90",
+        b"\x00",
+        b"\x00",
+        // 96, the locktime; 97 and 98, the input's proofs; 99, the script count; 100, the item; 101, the pegin count; 102 and 103, the
+        // output's proofs
+        b"\x00\x00\x00\x00",
+        b"\x00",
+        b"\x00",
+        b"\x01",
+        b"\x00",
+        b"\x00",
+        b"\x00",
+        b"\x00",
+    ];
+    for piece in cuts {
+        r.fed.taken = 0;
+        r.feed(piece);
+        r.line();
+    }
 }
 
 // A piece, and an empty one behind it.
@@ -367,7 +282,7 @@ fn out_of_range_late() {
 
 fn main() {
     ended();
-    witness_shown(output_shown(input_shown()));
+    shown();
     empty_pieces();
     sizes();
     sizes_later();

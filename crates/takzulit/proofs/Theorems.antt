@@ -15,13 +15,11 @@ use lib.ListN.{length, get_or, replicate}
 use Rattle.layout.specs.Number.{Bytes}
 use Rattle.layout.specs.Transaction.{Head}
 use Rattle.layout.specs.Layout as layout
+use Rattle.layout.specs.Outcome as outcome
 use Rattle.layout.specs.Outcome.{Tables, no_head}
 use Rattle.layout.specs.Writing.{◌!◌, wrote, unwritten}
-use Rattle.decoders.specs.declared.Head as told
-use Rattle.decoders.specs.declared.Answer.{Answer}
-use Rattle.decoders.specs.declared.Answer.TheVariants.{Finished, More, Refused}
 use Rattle.decoders.specs.Machine.{State}
-use Rattle.decoders.specs.Feeding.{pushed, ended, told_number, out}
+use Rattle.decoders.specs.Feeding.{pushed, ended, out}
 use Rattle.decoders.proofs.Answers.{push_numbered, end_numbered}
 use Rattle.decoders.proofs.Theorems.{misuse_answer, misuse_answer_end}
 use Rattle.takzulit.specs.Numbers.{packed_state, unpacked_state, head_list, head_of, numbered, shown, kept, kept_of, shown_of, verdict_numbers, feeding, finishing}
@@ -67,13 +65,13 @@ pub state_order :
 state_order stage form wide have value taken size_inputs size_outputs size_items version flag inputs outputs items locktime index left issuance null empty = refl
 
 -- TAKZULIT_NUMBER is 0, TAKZULIT_PLACE 1, TAKZULIT_TAKEN 2; a head shows where the reading is finished, and is 0 otherwise.
-pub fed_refused : (s : State) (taken n p : ℕ) (t : Tables) → kept_of (out s taken (Refused n p) t) ≡ kept (packed_state s) (shown (n ∷ p ∷ taken ∷ []) (replicate 7 0) t)
+pub fed_refused : (s : State) (taken n p : ℕ) (t : Tables) → kept_of (out s taken (layout.refused n p) t) ≡ kept (packed_state s) (shown (n ∷ p ∷ taken ∷ []) (replicate 7 0) t)
 fed_refused s taken n p t = refl
 
-pub fed_more : (s : State) (taken : ℕ) (t : Tables) → kept_of (out s taken More t) ≡ kept (packed_state s) (shown (255 ∷ 0 ∷ taken ∷ []) (replicate 7 0) t)
+pub fed_more : (s : State) (taken : ℕ) (t : Tables) → kept_of (out s taken layout.more t) ≡ kept (packed_state s) (shown (255 ∷ 0 ∷ taken ∷ []) (replicate 7 0) t)
 fed_more s taken t = refl
 
-pub fed_finished : (s : State) (taken : ℕ) (h : told.Head) (t : Tables) → kept_of (out s taken (Finished h) t) ≡ kept (packed_state s) (shown (0 ∷ 0 ∷ taken ∷ []) (h.version ∷ h.flag ∷ h.inputs ∷ h.outputs ∷ h.items ∷ h.locktime ∷ h.bytes ∷ []) t)
+pub fed_finished : (s : State) (taken : ℕ) (h : Head) (t : Tables) → kept_of (out s taken (layout.finished h) t) ≡ kept (packed_state s) (shown (0 ∷ 0 ∷ taken ∷ []) (h.version ∷ h.flag ∷ h.inputs ∷ h.outputs ∷ h.items ∷ h.locktime ∷ h.bytes ∷ []) t)
 fed_finished s taken h t = refl
 
 pub read_refused : (n p taken : ℕ) (t : Tables) → shown_of (record { answer = layout.refused n p; taken = taken; tables = t }) ≡ shown (n ∷ p ∷ taken ∷ []) (replicate 7 0) t
@@ -91,24 +89,24 @@ write_done n = refl
 
 -- ---- 255
 
-more_by_answer : (a : Answer) → ((n p : ℕ) → a ≡ Refused n p → n ≤ 11) → numbered (told_number a) ≡ 255 → a ≡ More
-more_by_answer (Finished h) f e = absurd (omega (arith, e))
-more_by_answer More f e = refl
-more_by_answer (Refused n p) f e = absurd (omega (arith, e, f n p refl))
+more_by_answer : (a : layout.Answer Head) → ((n p : ℕ) → a ≡ layout.refused n p → n ≤ 11) → numbered (outcome.number_of a) ≡ 255 → a ≡ layout.more
+more_by_answer (layout.finished h) f e = absurd (omega (arith, e))
+more_by_answer layout.more f e = refl
+more_by_answer (layout.refused n p) f e = absurd (omega (arith, e, f n p refl))
 
-pub more_alone : (s : List ℕ) (t : Tables) (xs : List ℕ) → Bytes xs → (feeding s t xs).shown.answer ! 0 ≡ 255 → (pushed (unpacked_state s) t xs).fed.answer ≡ More
+pub more_alone : (s : List ℕ) (t : Tables) (xs : List ℕ) → Bytes xs → (feeding s t xs).shown.answer ! 0 ≡ 255 → (pushed (unpacked_state s) t xs).answer ≡ layout.more
 more_alone s t xs q =
-    more_by_answer (pushed (unpacked_state s) t xs).fed.answer (λ n p e. (push_numbered (unpacked_state s) t xs q n p e).most)
+    more_by_answer (pushed (unpacked_state s) t xs).answer (λ n p e. (push_numbered (unpacked_state s) t xs q n p e).most)
 
-pub more_alone_end : (s : List ℕ) (t : Tables) → (finishing s t).shown.answer ! 0 ≡ 255 → (ended (unpacked_state s) t).fed.answer ≡ More
-more_alone_end s t = more_by_answer (ended (unpacked_state s) t).fed.answer (λ n p e. (end_numbered (unpacked_state s) t n p e).most)
+pub more_alone_end : (s : List ℕ) (t : Tables) → (finishing s t).shown.answer ! 0 ≡ 255 → (ended (unpacked_state s) t).answer ≡ layout.more
+more_alone_end s t = more_by_answer (ended (unpacked_state s) t).answer (λ n p e. (end_numbered (unpacked_state s) t n p e).most)
 
 -- ---- 10 and 11
 
-pub misuse_array : (s : List ℕ) (t : Tables) (xs : List ℕ) (n p : ℕ) → length s ≡ 20 → Bytes xs → (pushed (unpacked_state s) t xs).fed.answer ≡ Refused n p → 10 ≤ n → feeding s t xs ≡ kept s (shown (n ∷ 0 ∷ 0 ∷ []) (head_list no_head) t)
+pub misuse_array : (s : List ℕ) (t : Tables) (xs : List ℕ) (n p : ℕ) → length s ≡ 20 → Bytes xs → (pushed (unpacked_state s) t xs).answer ≡ layout.refused n p → 10 ≤ n → feeding s t xs ≡ kept s (shown (n ∷ 0 ∷ 0 ∷ []) (head_list no_head) t)
 misuse_array s t xs n p l q e big =
     ap kept_of (misuse_answer (unpacked_state s) t xs n p q e (omega arith)) ∙ ap (λ (z : List ℕ). kept z (shown (n ∷ 0 ∷ 0 ∷ []) (head_list no_head) t)) (packed_unpacked s l)
 
-pub misuse_array_end : (s : List ℕ) (t : Tables) (n p : ℕ) → length s ≡ 20 → (ended (unpacked_state s) t).fed.answer ≡ Refused n p → 10 ≤ n → finishing s t ≡ kept s (shown (n ∷ 0 ∷ 0 ∷ []) (head_list no_head) t)
+pub misuse_array_end : (s : List ℕ) (t : Tables) (n p : ℕ) → length s ≡ 20 → (ended (unpacked_state s) t).answer ≡ layout.refused n p → 10 ≤ n → finishing s t ≡ kept s (shown (n ∷ 0 ∷ 0 ∷ []) (head_list no_head) t)
 misuse_array_end s t n p l e big =
     ap kept_of (misuse_answer_end (unpacked_state s) t n p e (omega arith)) ∙ ap (λ (z : List ℕ). kept z (shown (n ∷ 0 ∷ 0 ∷ []) (head_list no_head) t)) (packed_unpacked s l)

@@ -8,7 +8,7 @@ use Rattle.layout.specs.Writing as writing
 use Rattle.layout.specs.Writing.{◌!◌, Verdict, verdict_number, verdict_place, verdict_length}
 use Rattle.decoders.specs.Machine.{State}
 use Rattle.decoders.specs.Feeding as decoders
-use Rattle.decoders.specs.Feeding.{layout_sizes, told_number, told_place, told_head}
+use Rattle.decoders.specs.Feeding.{layout_sizes}
 
 -- ---- a reading state as 20 numbers, in the order of docs/STATE.md, and back: any 20 numbers are a state, and the range test judges it
 
@@ -98,7 +98,7 @@ kept s v = record { state = s; shown = v }
 
 abbrev pub kept_of : decoders.Out → Kept
 kept_of o =
-    kept (packed_state o.fed.decoder) (shown (answer_numbers (told_number o.fed.answer) (told_place o.fed.answer) o.fed.taken) (head_list (told_head o.fed.answer)) o.tables)
+    kept (packed_state o.state) (shown (answer_numbers (outcome.number_of o.answer) (outcome.place_of o.answer) o.taken) (head_list (outcome.head_shown o.answer)) o.tables)
 
 abbrev pub feeding : List ℕ → Tables → List ℕ → Kept
 feeding s t xs = kept_of (decoders.pushed (unpacked_state s) t xs)

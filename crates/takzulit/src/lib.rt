@@ -8,7 +8,8 @@ ghost use Rattle.layout.specs.Writing.{is_fee};
 ghost use Rattle.decoders.specs.Feeding.{tables};
 ghost use Rattle.takzulit.specs.Numbers.{started, starting, kept, feeding, finishing, shown, reading, strict_reading, length_asked, wrote, writes};
 
-use decoders::TransactionDecoder;
+use decoders::{Head, TransactionDecoder};
+use pack::{HeadNumbers, StateNumbers};
 
 // The fresh start: every number of the lent tables is set to 0.
 pub fn takzulit_new(
@@ -20,7 +21,8 @@ pub fn takzulit_new(
     ensures { started state.new (tables inputs.new outputs.new items.new) ≡ starting (tables inputs.old outputs.old items.old) }
 {
     let decoder = TransactionDecoder::new(inputs, outputs, items);
-    *state = pack::packed(decoder);
+    let StateNumbers(next) = StateNumbers::from(decoder);
+    *state = next;
 }
 
 // Feeds a piece.
@@ -35,10 +37,11 @@ pub fn takzulit_push_bytes(
 )
     ensures { kept state.new (shown answer.new head.new (tables inputs.new outputs.new items.new)) ≡ feeding state.old (tables inputs.old outputs.old items.old) piece.now }
 {
-    let fed = pack::unpacked(*state).push_bytes(piece, inputs, outputs, items);
-    let next = fed.decoder;
+    let decoder = TransactionDecoder::from(StateNumbers(*state));
+    let fed = decoder.push_bytes(piece, inputs, outputs, items);
     let told = fed.answer;
-    *state = pack::packed(next);
+    let StateNumbers(next) = StateNumbers::from(fed.decoder);
+    *state = next;
     *head = pack::head(told);
     *answer = pack::answer(told, fed.taken);
 }
@@ -54,10 +57,11 @@ pub fn takzulit_end(
 )
     ensures { kept state.new (shown answer.new head.new (tables inputs.new outputs.new items.new)) ≡ finishing state.old (tables inputs.old outputs.old items.old) }
 {
-    let fed = pack::unpacked(*state).end(inputs, outputs, items);
-    let next = fed.decoder;
+    let decoder = TransactionDecoder::from(StateNumbers(*state));
+    let fed = decoder.end(inputs, outputs, items);
     let told = fed.answer;
-    *state = pack::packed(next);
+    let StateNumbers(next) = StateNumbers::from(fed.decoder);
+    *state = next;
     *head = pack::head(told);
     *answer = pack::answer(told, fed.taken);
 }
@@ -107,7 +111,13 @@ pub fn takzulit_written_length(
 )
     ensures { answer.new ≡ length_asked head.now (tables inputs.now outputs.now items.now) source.now }
 {
-    let told = encoders::written_length(pack::taken_head(*head), inputs, outputs, items, source);
+    let told = encoders::written_length(
+        Head::from(HeadNumbers(*head)),
+        inputs,
+        outputs,
+        items,
+        source,
+    );
     *answer = pack::written(told);
 }
 
@@ -124,7 +134,7 @@ pub fn takzulit_write(
     ensures { wrote answer.new output.new ≡ writes head.now (tables inputs.now outputs.now items.now) source.now output.old }
 {
     let told = encoders::write(
-        pack::taken_head(*head),
+        Head::from(HeadNumbers(*head)),
         inputs,
         outputs,
         items,

@@ -6,78 +6,107 @@ ghost use Rattle.decoders.specs.Feeding.{told_number, told_place, told_head};
 ghost use Rattle.encoders.specs.Answers as writer;
 
 use decoders::{Answer, Counts, Field, Head, Sizes, Spot, TransactionDecoder};
-use encoders::Written;
+use encode::Refusal;
 
 // More wanted is a case by itself, and no number of document 01's.
 pub const MORE: usize = 255;
 
-pub fn packed(decoder: TransactionDecoder) -> [usize; 20]
-    ensures { result ≡ packed_state decoder }
-{
-    let field = decoder.field;
-    let sizes = decoder.sizes;
-    let counts = decoder.counts;
-    let spot = decoder.spot;
-    [
-        field.stage,
-        field.form,
-        field.width,
-        field.have,
-        field.value,
-        decoder.taken,
-        sizes.inputs,
-        sizes.outputs,
-        sizes.items,
-        counts.version,
-        counts.flag,
-        counts.inputs,
-        counts.outputs,
-        counts.items,
-        counts.locktime,
-        spot.index,
-        spot.left,
-        spot.issuance,
-        spot.null,
-        spot.empty,
-    ]
+// A reading state as C keeps it.
+#[derive(Clone, Copy)]
+pub struct StateNumbers(pub [usize; 20]);
+
+// Head numbers as C keeps them.
+#[derive(Clone, Copy)]
+pub struct HeadNumbers(pub [u32; 7]);
+
+impl From<TransactionDecoder> for StateNumbers {
+    ghost from_gives = { λ decoder numbers. numbers.0 ≡ packed_state decoder };
+
+    fn from(decoder: TransactionDecoder) -> StateNumbers {
+        let TransactionDecoder {
+            field,
+            taken,
+            sizes,
+            counts,
+            spot,
+        } = decoder;
+        StateNumbers([
+            field.stage,
+            field.form,
+            field.width,
+            field.have,
+            field.value,
+            taken,
+            sizes.inputs,
+            sizes.outputs,
+            sizes.items,
+            counts.version,
+            counts.flag,
+            counts.inputs,
+            counts.outputs,
+            counts.items,
+            counts.locktime,
+            spot.index,
+            spot.left,
+            spot.issuance,
+            spot.null,
+            spot.empty,
+        ])
+    }
 }
 
-pub fn unpacked(numbers: [usize; 20]) -> TransactionDecoder
-    ensures { result ≡ unpacked_state numbers }
-{
-    let field = Field {
-        stage: numbers[0],
-        form: numbers[1],
-        width: numbers[2],
-        have: numbers[3],
-        value: numbers[4],
-    };
-    let sizes = Sizes {
-        inputs: numbers[6],
-        outputs: numbers[7],
-        items: numbers[8],
-    };
-    let counts = Counts {
-        version: numbers[9],
-        flag: numbers[10],
-        inputs: numbers[11],
-        outputs: numbers[12],
-        items: numbers[13],
-        locktime: numbers[14],
-    };
-    let spot = Spot {
-        index: numbers[15],
-        left: numbers[16],
-        issuance: numbers[17],
-        null: numbers[18],
-        empty: numbers[19],
-    };
-    TransactionDecoder {
-        field: field,
-        taken: numbers[5],
-        sizes: sizes,
-        counts: counts,
-        spot: spot,
+impl From<StateNumbers> for TransactionDecoder {
+    ghost from_gives = { λ numbers decoder. decoder ≡ unpacked_state numbers.0 };
+
+    fn from(numbers: StateNumbers) -> TransactionDecoder {
+        let n = numbers.0;
+        TransactionDecoder {
+            field: Field {
+                stage: n[0],
+                form: n[1],
+                width: n[2],
+                have: n[3],
+                value: n[4],
+            },
+            taken: n[5],
+            sizes: Sizes {
+                inputs: n[6],
+                outputs: n[7],
+                items: n[8],
+            },
+            counts: Counts {
+                version: n[9],
+                flag: n[10],
+                inputs: n[11],
+                outputs: n[12],
+                items: n[13],
+                locktime: n[14],
+            },
+            spot: Spot {
+                index: n[15],
+                left: n[16],
+                issuance: n[17],
+                null: n[18],
+                empty: n[19],
+            },
+        }
+    }
+}
+
+impl From<HeadNumbers> for Head {
+    ghost from_gives = { λ numbers head. writer.head_numbers head ≡ head_of numbers.0 };
+
+    fn from(numbers: HeadNumbers) -> Head {
+        let [version, flag, inputs, outputs, items, locktime, bytes] = numbers.0;
+        Head {
+            version,
+            flag,
+            inputs,
+            outputs,
+            items,
+            locktime,
+            bytes,
+        }
     }
 }
 
@@ -88,7 +117,7 @@ pub fn answer(told: Answer, taken: usize) -> [usize; 3]
     match told {
         Answer::Finished(_) => [0, 0, taken],
         Answer::More => [MORE, 0, taken],
-        Answer::Refused(number, place) => [number, place, taken],
+        Answer::Refused(refusal) => [refusal.kind.number(), refusal.place, taken],
     }
 }
 
@@ -100,31 +129,16 @@ pub fn head(told: Answer) -> [u32; 7]
         Answer::Finished(h) => [
             h.version, h.flag, h.inputs, h.outputs, h.items, h.locktime, h.bytes,
         ],
-        Answer::More => [0; 7],
-        Answer::Refused(_, _) => [0; 7],
-    }
-}
-
-pub fn taken_head(numbers: [u32; 7]) -> Head
-    ensures { writer.head_numbers result ≡ head_of numbers }
-{
-    Head {
-        version: numbers[0],
-        flag: numbers[1],
-        inputs: numbers[2],
-        outputs: numbers[3],
-        items: numbers[4],
-        locktime: numbers[5],
-        bytes: numbers[6],
+        Answer::More | Answer::Refused(_) => [0; 7],
     }
 }
 
 // Number, place, and the written length.
-pub fn written(told: Written) -> [usize; 3]
+pub fn written(told: Result<usize, Refusal>) -> [usize; 3]
     ensures { result ≡ answer_numbers (some (writer.told_number told)) (writer.told_place told) (writer.told_length told) }
 {
     match told {
-        Written::Done(n) => [0, 0, n],
-        Written::Refused(number, place) => [number, place, 0],
+        Ok(n) => [0, 0, n],
+        Err(refusal) => [refusal.kind.number(), refusal.place, 0],
     }
 }

@@ -8,54 +8,46 @@ ghost use Rattle.decoders.specs.Feeding.{tables, layout_sizes};
 ghost use Rattle.encoders.specs.Answers.{head_numbers};
 ghost use Rattle.write_back.specs.Back.{told_of, Rewritten, Back};
 
-use command::{Taken, text};
-use decoders::{Answer, Head, TransactionDecoder};
-use encoders::Written;
+use beside::Beside;
+use command::text;
+use decoders::{Answer, Head, Refusal, RefusalKind, TransactionDecoder};
 
-// What came of it. Unwritten and Different are for a reader or a writer that breaks its promise.
+// What came of it. Unwritten and Different are for a reader or a writer that breaks its promise. Four ends, and the two refusals are told apart:
+// neither an Option nor a Result has them.
 #[derive(Clone, Copy)]
 pub enum Outcome {
     Same(usize),
     Different(usize),
-    Refused(usize, usize),
-    Unwritten(usize, usize),
-}
-
-// How far the written bytes were held beside the source, and whether they are the same so far.
-#[derive(Clone, Copy)]
-pub struct Walk {
-    pub at: usize,
-    pub same: bool,
-}
-
-// One byte more than a transaction can have: what follows moves no answer (show/proofs/Theorems: limit_settles).
-fn bytes() -> [u8; 4000001] {
-    [0u8; 4000001]
+    Refused(Refusal),
+    Unwritten(Refusal),
 }
 
 // The written bytes, n of them, were held beside the source, which has so many bytes.
-fn told(walk: Walk, n: usize, there: usize) -> Outcome
-    ensures { result ≡ told_of walk n there }
+fn told(reached: Result<usize, usize>, n: usize, there: usize) -> Outcome
+    ensures { result ≡ told_of reached n there }
 {
-    if walk.same {
-        if walk.at == there {
-            return Outcome::Same(n);
+    match reached {
+        Ok(at) => {
+            if at == there {
+                return Outcome::Same(n);
+            }
+            Outcome::Different(at)
         }
+        Err(at) => Outcome::Different(at),
     }
-    Outcome::Different(walk.at)
 }
 
 // Pass 1 of writing judges head, tables and source; what pass 2 would put is held beside the source.
 fn written(head: Head, source: &[u8], inputs: &[u32], outputs: &[u32], items: &[u32]) -> Outcome
     ensures { Rewritten (head_numbers head) (tables inputs.now outputs.now items.now) source.now result }
 {
-    let w = encoders::written_length(head, inputs, outputs, items, source);
-    match w {
-        Written::Done(n) => {
-            let walk = beside::transaction(head, inputs, outputs, items, source);
-            told(walk, n, source.len())
-        }
-        Written::Refused(number, place) => Outcome::Unwritten(number, place),
+    let mut beside = Beside {
+        source,
+        reached: Ok(0),
+    };
+    match encoders::put::write_to(head, inputs, outputs, items, source, &mut beside) {
+        Ok(n) => told(beside.reached, n, source.len()),
+        Err(refusal) => Outcome::Unwritten(refusal),
     }
 }
 
@@ -63,22 +55,22 @@ fn read(source: &[u8], inputs: &mut [u32], outputs: &mut [u32], items: &mut [u32
     ensures { Back (layout_sizes (tables inputs.old outputs.old items.old)) source.now (tables inputs.new outputs.new items.new) result }
 {
     let r = TransactionDecoder::read_strict(source, inputs, outputs, items);
-    let answer = r.answer;
-    match answer {
+    match r.answer {
         Answer::Finished(head) => written(head, source, inputs, outputs, items),
-        Answer::More => Outcome::Refused(1, r.taken),
-        Answer::Refused(number, place) => Outcome::Refused(number, place),
+        Answer::More => Outcome::Refused(RefusalKind::EndsEarly.at(r.taken)),
+        Answer::Refused(refusal) => Outcome::Refused(refusal),
     }
 }
 
-fn refused(number: usize, place: usize) {
-    command::refused(number, place);
-    if number == 4 {
+fn refused(refusal: Refusal) {
+    command::refused(refusal);
+    if refusal.kind == RefusalKind::NoRecordLeft {
         text(b": here is room for 512 inputs, 512 outputs, 1024 items");
     }
     text(b"\n");
 }
 
+// A Display would have the same four arms, and want a text with room for the longest line.
 fn print(outcome: Outcome) {
     match outcome {
         Outcome::Same(n) => {
@@ -91,10 +83,10 @@ fn print(outcome: Outcome) {
             command::number(at as u64);
             text(b"\n");
         }
-        Outcome::Refused(number, place) => refused(number, place),
-        Outcome::Unwritten(number, place) => {
+        Outcome::Refused(refusal) => refused(refusal),
+        Outcome::Unwritten(refusal) => {
             text(b"not written, ");
-            refused(number, place);
+            refused(refusal);
         }
     }
 }
@@ -108,21 +100,11 @@ fn transaction(source: &[u8]) {
     print(outcome);
 }
 
-fn input(rt: &HostRuntime, buffer: &mut [u8]) {
-    let taken = command::take(
-        rt,
+fn main(rt: HostRuntime) {
+    command::with_input(
+        &rt,
         b"usage: write_back [FILE]\n",
         b"Reads an Elements transaction, and holds what writing it again gives beside its bytes, one by one. Says 'same: N bytes', or the refusal's number\nand place. FILE holds the bytes themselves, not hex. Without FILE, or with -, standard input is read. Room: 512 inputs, 512 outputs, 1024 items.\n",
-        buffer,
+        transaction,
     );
-    match taken {
-        Taken::Whole(n) => transaction(&buffer[..n]),
-        Taken::Longer => transaction(buffer),
-        Taken::Nothing => {}
-    }
-}
-
-fn main(rt: HostRuntime) {
-    let mut buffer = bytes();
-    input(&rt, &mut buffer);
 }

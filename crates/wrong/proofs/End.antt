@@ -4,12 +4,11 @@ use mathlib.Core.Path.{◌≡◌, refl, sym, ◌∙◌, ap}
 use mathlib.Core.Bool.{cond, ◌&&◌}
 use lib.Dec.{leb, eqb}
 use lib.ListN.{length, take, replicate}
+use Rattle.layout.specs.Layout.{Answer, finished, more, refused}
 use Rattle.layout.specs.Outcome.{Tables}
-use Rattle.decoders.specs.declared.Answer.{Answer}
-use Rattle.decoders.specs.declared.Answer.TheVariants.{Finished, More, Refused}
-use Rattle.decoders.specs.Machine.{State, refuse, fed, with_field, field}
-use Rattle.decoders.specs.Feeding.{sizes, tables, sizes_of, cleared, gate, closed, finish, Out, out, ended}
-use Rattle.decoders.specs.Needs.{head_told}
+use Rattle.layout.specs.Transaction.{Head}
+use Rattle.decoders.specs.Machine.{State, refuse, with_field, field, head_of}
+use Rattle.decoders.specs.Feeding.{tables, sizes_of, cleared, gate, closed, finish, Out, out, ended}
 use Rattle.wrong.proofs.Loads.{computes, apart, placed, kind, former, zeroed, bare, flagged, paying, laden, start, after, left, forged, longer, input, output, item}
 use Rattle.wrong.proofs.Outs.{answer, case, taken}
 
@@ -18,7 +17,7 @@ Wrong p s t = p s t ≡ ended s t → ⊥
 
 -- does nothing: a cut transaction would wait for ever
 abbrev idle : State → Tables → Out
-idle s t = out s 0 More t
+idle s t = out s 0 more t
 
 pub idle_wrong : Wrong idle start zeroed
 unfolding computes
@@ -34,7 +33,7 @@ refuses_finished_wrong = apart answer 1 0 refl refl refl
 
 -- refuses all, by any number and place
 abbrev refusing : ℕ → ℕ → State → Tables → Out
-refusing n p s t = out (refuse n p s) 0 (Refused n p) (cleared t)
+refusing n p s t = out (refuse n p s) 0 (refused n p) (cleared t)
 
 pub refusing_wrong : (n p : ℕ) → Wrong (refusing n p) (after bare) zeroed
 unfolding computes
@@ -46,23 +45,23 @@ unfolding computes
 first_fault_wrong = apart answer 1 7 refl refl refl
 
 -- answers always the same, whatever that answer is: it fails at a finished or at a fresh reading
-abbrev same : Answer → State → Tables → Out
-same a s t = out (ended s t).fed.decoder (ended s t).fed.taken a (ended s t).tables
+abbrev same : Answer Head → State → Tables → Out
+same a s t = out (ended s t).state (ended s t).taken a (ended s t).tables
 
-same_finished : (a : Answer) → same a (after bare) zeroed ≡ ended (after bare) zeroed → kind a ≡ 0
+same_finished : (a : Answer Head) → same a (after bare) zeroed ≡ ended (after bare) zeroed → kind a ≡ 0
 unfolding computes
 same_finished a e = ap case e
 
-same_refused : (a : Answer) → same a start zeroed ≡ ended start zeroed → kind a ≡ 2
+same_refused : (a : Answer Head) → same a start zeroed ≡ ended start zeroed → kind a ≡ 2
 unfolding computes
 same_refused a e = ap case e
 
-pub same_wrong : (a : Answer) → same a (after bare) zeroed ≡ ended (after bare) zeroed → same a start zeroed ≡ ended start zeroed → ⊥
+pub same_wrong : (a : Answer Head) → same a (after bare) zeroed ≡ ended (after bare) zeroed → same a start zeroed ≡ ended start zeroed → ⊥
 same_wrong a e e' = apart (λ (n : ℕ). n) 0 2 refl refl refl (sym (same_finished a e) ∙ same_refused a e')
 
 -- accepts what is cut
 abbrev accepting : State → Tables → Out
-accepting s t = out s 0 (Finished (head_told s)) t
+accepting s t = out s 0 (finished (head_of s)) t
 
 pub accepting_wrong : Wrong accepting (after (take 10 bare)) zeroed
 unfolding computes
@@ -70,7 +69,7 @@ accepting_wrong = apart answer 0 1 refl refl refl
 
 -- takes bytes: finishing has no piece
 abbrev takes : State → Tables → Out
-takes s t = out (ended s t).fed.decoder s.taken (ended s t).fed.answer (ended s t).tables
+takes s t = out (ended s t).state s.taken (ended s t).answer (ended s t).tables
 
 pub takes_wrong : Wrong takes (after (take 4 bare)) zeroed
 unfolding computes
@@ -82,7 +81,7 @@ at_zero s t = closed (cond (leb 25 s.field.stage) s (refuse 1 0 s)) 0 t
 
 pub at_zero_wrong : Wrong at_zero (after (take 4 bare)) zeroed
 unfolding computes
-at_zero_wrong = apart (λ o. placed o.fed.answer) 0 4 refl refl refl
+at_zero_wrong = apart (λ o. placed o.answer) 0 4 refl refl refl
 
 -- gives 2 where more is wanted: a cut message would look too long
 abbrev gives_two : State → Tables → Out
@@ -94,29 +93,29 @@ gives_two_wrong = apart answer 2 1 refl refl refl
 
 -- answers 1 and lets the reading go on: a refused reading could be finished later
 abbrev goes_on : State → Tables → Out
-goes_on s t = out s 0 (ended s t).fed.answer (ended s t).tables
+goes_on s t = out s 0 (ended s t).answer (ended s t).tables
 
 pub goes_on_wrong : Wrong goes_on (after (take 4 bare)) zeroed
 unfolding computes
-goes_on_wrong = apart (λ o. o.fed.decoder.field.stage) 1 26 refl refl refl
+goes_on_wrong = apart (λ o. o.state.field.stage) 1 26 refl refl refl
 
 -- at 1 one of the tables keeps what was entered
 abbrev inputs_left : State → Tables → Out
-inputs_left s t = out (ended s t).fed.decoder 0 (ended s t).fed.answer (tables t.inputs (ended s t).tables.outputs (ended s t).tables.items)
+inputs_left s t = out (ended s t).state 0 (ended s t).answer (tables t.inputs (ended s t).tables.outputs (ended s t).tables.items)
 
 pub inputs_left_wrong : Wrong inputs_left (after laden) (left laden)
 unfolding computes
 inputs_left_wrong = apart (λ o. input 0 o.tables) 6 0 refl refl refl
 
 abbrev outputs_left : State → Tables → Out
-outputs_left s t = out (ended s t).fed.decoder 0 (ended s t).fed.answer (tables (ended s t).tables.inputs t.outputs (ended s t).tables.items)
+outputs_left s t = out (ended s t).state 0 (ended s t).answer (tables (ended s t).tables.inputs t.outputs (ended s t).tables.items)
 
 pub outputs_left_wrong : Wrong outputs_left (after laden) (left laden)
 unfolding computes
 outputs_left_wrong = apart (λ o. output 1 o.tables) 48 0 refl refl refl
 
 abbrev items_left : State → Tables → Out
-items_left s t = out (ended s t).fed.decoder 0 (ended s t).fed.answer (tables (ended s t).tables.inputs (ended s t).tables.outputs t.items)
+items_left s t = out (ended s t).state 0 (ended s t).answer (tables (ended s t).tables.inputs (ended s t).tables.outputs t.items)
 
 pub items_left_wrong : Wrong items_left (after laden) (left laden)
 unfolding computes
@@ -124,7 +123,7 @@ items_left_wrong = apart (λ o. item 0 o.tables) 60 0 refl refl refl
 
 -- a refused reading doesn't set the tables to 0 again
 abbrev zeroed_once : State → Tables → Out
-zeroed_once s t = cond (eqb s.field.stage 26) (out s 0 (ended s t).fed.answer t) (ended s t)
+zeroed_once s t = cond (eqb s.field.stage 26) (out s 0 (ended s t).answer t) (ended s t)
 
 pub zeroed_once_wrong : Wrong zeroed_once (after flagged) former
 unfolding computes
@@ -132,7 +131,7 @@ zeroed_once_wrong = apart (λ o. input 0 o.tables) 7 0 refl refl refl
 
 -- clears a finished reading's tables: what was read would be lost at finish
 abbrev clears_finished : State → Tables → Out
-clears_finished s t = out (ended s t).fed.decoder 0 (ended s t).fed.answer (cleared t)
+clears_finished s t = out (ended s t).state 0 (ended s t).answer (cleared t)
 
 pub clears_finished_wrong : Wrong clears_finished (after paying) (left paying)
 unfolding computes
@@ -141,7 +140,7 @@ clears_finished_wrong = apart (λ o. output 1 o.tables) 0 7 refl refl refl
 -- or only its item table, where it has no items
 abbrev clears_items : State → Tables → Out
 clears_items s t =
-    cond (eqb s.field.stage 25 && eqb s.counts.items 0) (out (ended s t).fed.decoder 0 (ended s t).fed.answer (tables t.inputs t.outputs (replicate (length t.items) 0))) (ended s t)
+    cond (eqb s.field.stage 25 && eqb s.counts.items 0) (out (ended s t).state 0 (ended s t).answer (tables t.inputs t.outputs (replicate (length t.items) 0))) (ended s t)
 
 pub clears_items_wrong : Wrong clears_items (after bare) former
 unfolding computes
@@ -165,14 +164,14 @@ unfolding computes
 ungated_ten_wrong = apart answer 1 10 refl refl refl
 
 abbrev ten_first : State → Tables → Out
-ten_first s t = cond (eqb s.sizes.inputs (length t.inputs)) (ended s t) (out s 0 (Refused 10 0) t)
+ten_first s t = cond (eqb s.sizes.inputs (length t.inputs)) (ended s t) (out s 0 (refused 10 0) t)
 
 pub ten_first_wrong : Wrong ten_first forged longer
 unfolding computes
 ten_first_wrong = apart answer 10 11 refl refl refl
 
 abbrev clears_on_misuse : State → Tables → Out
-clears_on_misuse s t = cond (eqb (gate s (sizes_of t)) 0) (ended s t) (out s 0 (Refused (gate s (sizes_of t)) 0) (cleared t))
+clears_on_misuse s t = cond (eqb (gate s (sizes_of t)) 0) (ended s t) (out s 0 (refused (gate s (sizes_of t)) 0) (cleared t))
 
 pub clears_on_misuse_ten_wrong : Wrong clears_on_misuse start longer
 unfolding computes

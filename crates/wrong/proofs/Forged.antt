@@ -8,7 +8,7 @@ use lib.Dec.{eqb}
 use lib.ListN.{replicate, get_or, set, take}
 use Rattle.decoders.specs.Machine.{State, field}
 use Rattle.decoders.specs.Range.{in_range}
-use Rattle.decoders.specs.Feeding.{tables, cleared, begun, pushed}
+use Rattle.decoders.specs.Feeding.{tables, begun, pushed}
 use Rattle.loads.proofs.Loads.{hex}
 use Rattle.wrong.proofs.Loads.{computes}
 
@@ -113,7 +113,7 @@ abbrev pub start : State
 start = (begun (tables (replicate 40 0) (replicate 28 0) (replicate 4 0))).state
 
 abbrev pub after : List ℕ → State
-after xs = (pushed start (tables (replicate 40 0) (replicate 28 0) (replicate 4 0)) xs).fed.decoder
+after xs = (pushed start (tables (replicate 40 0) (replicate 28 0) (replicate 4 0)) xs).state
 
 abbrev pub holds : Case → Bool
 holds c = same (numbers_of (after c.fed)) c.numbers && in_range (made c.numbers) && every (λ (e : ℕ × ℕ). not (in_range (made (set c.numbers e.0 e.1)))) c.wrong

@@ -6,10 +6,10 @@ use mathlib.Core.Path.{◌≡◌, refl}
 use mathlib.Core.List.{List, ◌++◌}
 use lib.Dec.{lit≤}
 use lib.ListN.{replicate, take, drop}
+use Rattle.layout.specs.Layout.{finished}
 use Rattle.layout.specs.Layout as layout
 use Rattle.layout.specs.Outcome.{Tables}
-use Rattle.decoders.specs.declared.Head.{Head}
-use Rattle.decoders.specs.declared.Answer.TheVariants.{Finished}
+use Rattle.layout.specs.Transaction.{Head}
 use Rattle.decoders.specs.Machine.{fresh}
 use Rattle.decoders.specs.Feeding.{tables, sizes_of, cleared, pushed, Out}
 use Rattle.decoders.proofs.Answers.{ZeroBehind}
@@ -41,8 +41,8 @@ head = record { version = 2; flag = 0; inputs = 0; outputs = 1; items = 0; lockt
 
 -- what such a reader gets right: it answers finished with the head numbers, takes all bytes, and the one output record is as promised
 pub record Right (clear : Tables → Tables) : Type 0 where
-  pub answer : (reader clear lent paying).fed.answer ≡ Finished head
-  pub taken : (reader clear lent paying).fed.taken ≡ 15
+  pub answer : (reader clear lent paying).answer ≡ finished head
+  pub taken : (reader clear lent paying).taken ≡ 15
   pub records : take 14 (reader clear lent paying).tables.outputs ≡ take 14 (promised lent paying).tables.outputs
 
 pub first_records_right : Right first_records

@@ -5,12 +5,11 @@ use mathlib.Core.Bool.{cond, ◌&&◌}
 use mathlib.Core.List.{List, [], ◌∷◌, ◌++◌}
 use lib.Dec.{leb, eqb}
 use lib.ListN.{length, take, drop, get_or, replicate, set}
+use Rattle.layout.specs.Layout.{Answer, finished, more, refused}
 use Rattle.layout.specs.Outcome.{Tables}
-use Rattle.decoders.specs.declared.Answer.{Answer}
-use Rattle.decoders.specs.declared.Answer.TheVariants.{Finished, More, Refused}
-use Rattle.decoders.specs.Machine.{State, machine, refuse, fed, field, set_version, set_issuance}
-use Rattle.decoders.specs.Feeding.{sizes, tables, sizes_of, cleared, gate, closed, Out, out, pushed, ended}
-use Rattle.decoders.specs.Needs.{head_told}
+use Rattle.layout.specs.Transaction.{Head}
+use Rattle.decoders.specs.Machine.{State, machine, refuse, fed, set_version, set_issuance, head_of}
+use Rattle.decoders.specs.Feeding.{tables, sizes_of, cleared, gate, closed, Out, out, pushed, ended}
 use Rattle.loads.proofs.Loads.{hex}
 use Rattle.wrong.proofs.Loads.{computes, apart, kind, inputs_told, version_told, counts_swapped, ends_swapped, former, zeroed, bare, flagged, paying, spending, broken, start, after, left, forged, longer, input, output, item}
 use Rattle.wrong.proofs.Outs.{answer, case, taken, but_state, but_taken, but_answer, but_tables, is_refused}
@@ -23,7 +22,7 @@ Wrong p s t xs = p s t xs ≡ pushed s t xs → ⊥
 
 -- does nothing: no transaction would ever be read
 abbrev idle : State → Tables → List ℕ → Out
-idle s t xs = out s 0 More t
+idle s t xs = out s 0 more t
 
 pub idle_wrong : Wrong idle start zeroed bare
 unfolding computes
@@ -31,30 +30,30 @@ idle_wrong = apart taken 0 11 refl refl refl
 
 -- refuses all, by any number and place: no shipment would be accepted
 abbrev refusing : ℕ → ℕ → State → Tables → List ℕ → Out
-refusing n p s t xs = out (refuse n p s) 0 (Refused n p) (cleared t)
+refusing n p s t xs = out (refuse n p s) 0 (refused n p) (cleared t)
 
 pub refusing_wrong : (n p : ℕ) → Wrong (refusing n p) start zeroed bare
 unfolding computes
 refusing_wrong n p = apart case 2 0 refl refl refl
 
 -- answers always the same, all else right, whatever that answer is: it fails at 11 bytes or at the first 10 of them
-abbrev same : Answer → State → Tables → List ℕ → Out
+abbrev same : Answer Head → State → Tables → List ℕ → Out
 same a s t xs = but_answer a (pushed s t xs)
 
-same_finished : (a : Answer) → same a start zeroed bare ≡ pushed start zeroed bare → kind a ≡ 0
+same_finished : (a : Answer Head) → same a start zeroed bare ≡ pushed start zeroed bare → kind a ≡ 0
 unfolding computes
 same_finished a e = ap case e
 
-same_more : (a : Answer) → same a start zeroed (take 10 bare) ≡ pushed start zeroed (take 10 bare) → kind a ≡ 1
+same_more : (a : Answer Head) → same a start zeroed (take 10 bare) ≡ pushed start zeroed (take 10 bare) → kind a ≡ 1
 unfolding computes
 same_more a e = ap case e
 
-pub same_wrong : (a : Answer) → same a start zeroed bare ≡ pushed start zeroed bare → same a start zeroed (take 10 bare) ≡ pushed start zeroed (take 10 bare) → ⊥
+pub same_wrong : (a : Answer Head) → same a start zeroed bare ≡ pushed start zeroed bare → same a start zeroed (take 10 bare) ≡ pushed start zeroed (take 10 bare) → ⊥
 same_wrong a e e' = apart (λ (n : ℕ). n) 0 1 refl refl refl (sym (same_finished a e) ∙ same_more a e')
 
 -- reads the first piece and nods at later ones: what comes in two pieces would be lost
 abbrev nodding : State → Tables → List ℕ → Out
-nodding s t xs = cond (eqb s.taken 0) (pushed s t xs) (out s (length xs) More t)
+nodding s t xs = cond (eqb s.taken 0) (pushed s t xs) (out s (length xs) more t)
 
 pub nodding_wrong : Wrong nodding (after (take 4 bare)) zeroed (drop 4 bare)
 unfolding computes
@@ -63,7 +62,7 @@ nodding_wrong = apart case 1 0 refl refl refl
 -- at the flag byte alone answer and count are right, but not the state
 pub nodding_state_wrong : Wrong nodding (after (take 4 bare)) zeroed (hex "00")
 unfolding computes
-nodding_state_wrong = apart (λ o. o.fed.decoder.taken) 4 5 refl refl refl
+nodding_state_wrong = apart (λ o. o.state.taken) 4 5 refl refl refl
 
 -- and at an asset's prefix not the table
 pub nodding_table_wrong : Wrong nodding (after (take 7 paying)) zeroed (hex "00")
@@ -107,7 +106,7 @@ one_less_wrong = apart taken 10 11 refl refl refl
 
 -- the bytes taken since the fresh start: a caller with two pieces would skip too far
 abbrev since_start : State → Tables → List ℕ → Out
-since_start s t xs = but_taken (pushed s t xs).fed.decoder.taken (pushed s t xs)
+since_start s t xs = but_taken (pushed s t xs).state.taken (pushed s t xs)
 
 pub since_start_wrong : Wrong since_start (after (take 4 bare)) zeroed (drop 4 bare)
 unfolding computes
@@ -146,15 +145,15 @@ items_left_wrong = apart (λ o. item 0 o.tables) 60 0 refl refl refl
 
 -- the head numbers stay in a refused state: they would be taken for a transaction's
 abbrev head_left : State → Tables → List ℕ → Out
-head_left s t xs = cond (is_refused (pushed s t xs)) (but_state (set_version 2 (pushed s t xs).fed.decoder) (pushed s t xs)) (pushed s t xs)
+head_left s t xs = cond (is_refused (pushed s t xs)) (but_state (set_version 2 (pushed s t xs).state) (pushed s t xs)) (pushed s t xs)
 
 pub head_left_wrong : Wrong head_left start zeroed flagged
 unfolding computes
-head_left_wrong = apart (λ o. o.fed.decoder.counts.version) 2 0 refl refl refl
+head_left_wrong = apart (λ o. o.state.counts.version) 2 0 refl refl refl
 
 -- and are shown as a finished reading's
 abbrev head_shown : State → Tables → List ℕ → Out
-head_shown s t xs = cond (is_refused (pushed s t xs)) (but_answer (Finished (head_told (pushed s t xs).fed.decoder)) (pushed s t xs)) (pushed s t xs)
+head_shown s t xs = cond (is_refused (pushed s t xs)) (but_answer (finished (head_of (pushed s t xs).state)) (pushed s t xs)) (pushed s t xs)
 
 pub head_shown_wrong : Wrong head_shown start zeroed flagged
 unfolding computes
@@ -164,18 +163,18 @@ head_shown_wrong = apart answer 0 7 refl refl refl
 
 -- inputs and outputs change places, or version and locktime: the tables would be read with the wrong counts
 abbrev head_counts : State → Tables → List ℕ → Out
-head_counts s t xs = but_answer (counts_swapped (pushed s t xs).fed.answer) (pushed s t xs)
+head_counts s t xs = but_answer (counts_swapped (pushed s t xs).answer) (pushed s t xs)
 
 pub head_counts_wrong : Wrong head_counts start zeroed paying
 unfolding computes
-head_counts_wrong = apart (λ o. inputs_told o.fed.answer) 1 0 refl refl refl
+head_counts_wrong = apart (λ o. inputs_told o.answer) 1 0 refl refl refl
 
 abbrev head_ends : State → Tables → List ℕ → Out
-head_ends s t xs = but_answer (ends_swapped (pushed s t xs).fed.answer) (pushed s t xs)
+head_ends s t xs = but_answer (ends_swapped (pushed s t xs).answer) (pushed s t xs)
 
 pub head_ends_wrong : Wrong head_ends start zeroed paying
 unfolding computes
-head_ends_wrong = apart (λ o. version_told o.fed.answer) 0 2 refl refl refl
+head_ends_wrong = apart (λ o. version_told o.answer) 0 2 refl refl refl
 
 -- ---- the tables are never read back
 
@@ -219,7 +218,7 @@ zeroed_once_wrong = apart (λ o. input 0 o.tables) 7 0 refl refl refl
 
 -- a refused reading wants more at the next call: a refusal would be forgotten
 abbrev forgetful : State → Tables → List ℕ → Out
-forgetful s t xs = cond (eqb s.field.stage 26) (but_answer More (pushed s t xs)) (pushed s t xs)
+forgetful s t xs = cond (eqb s.field.stage 26) (but_answer more (pushed s t xs)) (pushed s t xs)
 
 pub forgetful_wrong : Wrong forgetful (after flagged) zeroed []
 unfolding computes
@@ -241,7 +240,7 @@ ungated_ten_wrong = apart answer 0 10 refl refl refl
 
 -- 10 before 11: a forged state would be told as wrong tables
 abbrev ten_first : State → Tables → List ℕ → Out
-ten_first s t xs = cond (eqb s.sizes.inputs (length t.inputs)) (pushed s t xs) (out s 0 (Refused 10 0) t)
+ten_first s t xs = cond (eqb s.sizes.inputs (length t.inputs)) (pushed s t xs) (out s 0 (refused 10 0) t)
 
 pub ten_first_wrong : Wrong ten_first forged longer bare
 unfolding computes
@@ -265,4 +264,4 @@ spoils s t xs = cond (eqb (gate s (sizes_of t)) 0) (pushed s t xs) (but_state (r
 
 pub spoils_wrong : Wrong spoils start longer bare
 unfolding computes
-spoils_wrong = apart (λ o. o.fed.decoder.field.stage) 26 0 refl refl refl
+spoils_wrong = apart (λ o. o.state.field.stage) 26 0 refl refl refl

@@ -7,9 +7,11 @@ use lib.Dec.{leb, eqb}
 use lib.ListN.{get_or}
 use Rattle.layout.specs.Layout.{Answer, finished, more, refused}
 use Rattle.layout.specs.Transaction.{announced, least}
-use Rattle.encode.specs.declared.Count.{Count}
-use Rattle.encode.specs.declared.Count.TheVariants.{Value, Refused}
+use Rattle.std.specs.Prelude.{Result, Ok, Err}
+use Rattle.encode.specs.declared.refusal.Refusal.{Refusal}
+use Rattle.encode.specs.declared.refusal.RefusalKind.{RefusalKind}
 use Rattle.encode.specs.Count.{answer_of, counted}
+use Rattle.encode.proofs.Theorems.{told}
 use Rattle.confidential.specs.Width.{value_width, asset_width, nonce_width}
 use Rattle.loads.proofs.Loads.{hex}
 use Rattle.wrong.proofs.Loads.{computes, apart}
@@ -25,40 +27,40 @@ case (finished n) = 0
 case more = 2
 case (refused n p) = 1
 
-abbrev Wrong : (List ℕ → Count) → List ℕ → Type 0
+abbrev Wrong : (List ℕ → Result ℕ Refusal) → List ℕ → Type 0
 Wrong p xs = answer_of (p xs) ≡ counted xs → ⊥
 
--- the right answer as a case of the enum
-abbrev right : List ℕ → Count
-right xs = elim (counted xs) [ finished n ↦ Value n | more ↦ Refused 0 0 | refused n p ↦ Refused n p ]
+-- the right answer as a case of the result
+abbrev right : List ℕ → Result ℕ Refusal
+right xs = told (counted xs)
 
 -- the first byte is always the value: no length above 252 would be read
-abbrev first_byte : List ℕ → Count
-first_byte xs = Value (get_or xs 0 0)
+abbrev first_byte : List ℕ → Result ℕ Refusal
+first_byte xs = Ok (get_or xs 0 0)
 
 pub first_byte_wrong : Wrong first_byte (hex "fe00000100")
 unfolding computes
 first_byte_wrong = apart number 354 65636 refl refl refl
 
 -- refuses all
-abbrev refusing : ℕ → ℕ → List ℕ → Count
-refusing n p xs = Refused n p
+abbrev refusing : RefusalKind → ℕ → List ℕ → Result ℕ Refusal
+refusing k p xs = Err (record { kind = k; place = p })
 
-pub refusing_wrong : (n p : ℕ) → Wrong (refusing n p) (hex "fc")
+pub refusing_wrong : (k : RefusalKind) (p : ℕ) → Wrong (refusing k p) (hex "fc")
 unfolding computes
-refusing_wrong n p = apart case 1 0 refl refl refl
+refusing_wrong k p = apart case 1 0 refl refl refl
 
 -- any form passes: one count would have two writings
-abbrev any_form : List ℕ → Count
-any_form xs = cond (eqb (number (counted xs)) 3) (Value 252) (right xs)
+abbrev any_form : List ℕ → Result ℕ Refusal
+any_form xs = cond (eqb (number (counted xs)) 3) (Ok 252) (right xs)
 
 pub any_form_wrong : Wrong any_form (hex "fdfc00")
 unfolding computes
 any_form_wrong = apart number 352 3 refl refl refl
 
 -- a cut count is 0: a cut transaction would be misread
-abbrev cut_is_none : List ℕ → Count
-cut_is_none xs = cond (eqb (number (counted xs)) 1) (Value 0) (right xs)
+abbrev cut_is_none : List ℕ → Result ℕ Refusal
+cut_is_none xs = cond (eqb (number (counted xs)) 1) (Ok 0) (right xs)
 
 pub cut_is_none_wrong : Wrong cut_is_none (hex "fdfd")
 unfolding computes

@@ -1,16 +1,10 @@
-use Rattle.encoders.proofs.Widths.{judged, judged_held, faulty, too_long_lem, fits}
-use Rattle.encoders.specs.Answers.{head_numbers}
-use Rattle.decoders.specs.Feeding.{tables}
+use Rattle.std.proofs.lemmas.Result.{err_from_is_err_and}
 use Rattle.encoders.proofs.written_length.Goals as goal
 
-pub returns-in_default : goal.returns-in_default
-returns-in_default c = faulty (head_numbers c.args.head) (tables c.args.inputs.now c.args.outputs.now c.args.items.now) c.args.source.now c.judge-w.ensures c.in_default.is
-
-pub written-n-requires : goal.written-n-requires
-written-n-requires c = judged_held (head_numbers c.args.head) (tables c.args.inputs.now c.args.outputs.now c.args.items.now) c.args.source.now c.judge-w.ensures c.in-Done.is
-
-pub returns-then-n-gt-LIMIT : goal.returns-then-n-gt-LIMIT
-returns-then-n-gt-LIMIT c = too_long_lem (head_numbers c.args.head) (tables c.args.inputs.now c.args.outputs.now c.args.items.now) c.args.source.now (judged (head_numbers c.args.head) (tables c.args.inputs.now c.args.outputs.now c.args.items.now) c.args.source.now c.judge-w.ensures c.in-Done.is) c.written-n.ensures c.if-n-gt-LIMIT.true
+pub returns-in_err-n : goal.returns-in_err-n
+returns-in_err-n c =
+    let p = err_from_is_err_and c.from_residual.result c.from_residual.ensures.1 in
+    rw (p.1, p.2) c.in_err-n.ensures.told
 
 pub returns : goal.returns
-returns c = fits (head_numbers c.args.head) (tables c.args.inputs.now c.args.outputs.now c.args.items.now) c.args.source.now (judged (head_numbers c.args.head) (tables c.args.inputs.now c.args.outputs.now c.args.items.now) c.args.source.now c.judge-w.ensures c.in-Done.is) c.written-n.ensures c.if-n-gt-LIMIT.false
+returns c = c.in_ok-n.ensures.told

@@ -1,4 +1,3 @@
-use borrow.Author.Rules.{rules}
 use Rattle.layout.specs.Outcome.{strict}
 use Rattle.decoders.specs.Feeding.{tables, layout_sizes}
 use Rattle.takzulit.proofs.Leaves.{shows}

@@ -1,47 +1,34 @@
-use native.Mathlib.Omega.{arith}
 use mathlib.Core.Path.{refl}
+use native.Mathlib.Omega.{arith}
+use Prim.Native.Nat.{◌-◌}
+use lib.ListN.{length-drop}
 use Rattle.decoders.specs.Feeding.{tables}
-use Rattle.decoders.proofs.Loop.{turn_first, turn_ended, turn_last, turn_feeds, some_more, turn_next}
+use Rattle.decoders.proofs.Loop.{turn_first, turn_ended, turn_last, none_left, some_left, turn_feeds, some_more, turn_next}
 use Rattle.decoders.proofs.TransactionDecoder.run.Goals as goal
 
-pub loop-n-init : goal.loop-n-init
-loop-n-init c = turn_first c.args.piece.now c.args.self (tables c.args.inputs.now c.args.outputs.now c.args.items.now) c.requires
-
-pub shape_of-inputs-then-stage-ge-FINISHED : goal.shape_of-inputs-then-stage-ge-FINISHED
-shape_of-inputs-then-stage-ge-FINISHED c = c.loop-n.invariant.lengths.inputs
-
-pub shape_of-outputs-then-stage-ge-FINISHED : goal.shape_of-outputs-then-stage-ge-FINISHED
-shape_of-outputs-then-stage-ge-FINISHED c = c.loop-n.invariant.lengths.outputs
-
-pub shape_of-items-then-stage-ge-FINISHED : goal.shape_of-items-then-stage-ge-FINISHED
-shape_of-items-then-stage-ge-FINISHED c = c.loop-n.invariant.lengths.items
-
-pub returns-then-stage-ge-FINISHED : goal.returns-then-stage-ge-FINISHED
-returns-then-stage-ge-FINISHED c = turn_ended c.args.piece.now c.args.self (tables c.args.inputs.now c.args.outputs.now c.args.items.now) c.loop-n.d (tables c.loop-n.inputs c.loop-n.outputs c.loop-n.items) c.loop-n.n c.loop-n.invariant c.if-stage-ge-FINISHED.true
+pub loop-rest-init : goal.loop-rest-init
+loop-rest-init c = turn_first c.args.piece.now c.args.self (tables c.args.inputs.now c.args.outputs.now c.args.items.now) (λ i. (c.type_inv.piece i).fits) c.requires
 
 pub advance-d-requires : goal.advance-d-requires
-advance-d-requires c = turn_feeds c.args.piece.now c.args.self (tables c.args.inputs.now c.args.outputs.now c.args.items.now) c.loop-n.d (tables c.loop-n.inputs c.loop-n.outputs c.loop-n.items) c.loop-n.n c.loop-n.invariant _ refl c.loop-n-test.true c.if-stage-ge-FINISHED.false
+advance-d-requires c = turn_feeds c.args.piece.now c.args.self (tables c.args.inputs.now c.args.outputs.now c.args.items.now) c.loop-rest.d (tables c.loop-rest.inputs c.loop-rest.outputs c.loop-rest.items) c.loop-rest.rest.now c.loop-rest.invariant (some_left _ _ c.is_empty.ensures c.loop-rest-test.true) c.if-d-lt-FINISHED.true
 
-pub overflow_sub-n : goal.overflow_sub-n
-overflow_sub-n c = omega (arith, some_more c.args.piece.now c.args.self (tables c.args.inputs.now c.args.outputs.now c.args.items.now) c.loop-n.d (tables c.loop-n.inputs c.loop-n.outputs c.loop-n.items) c.loop-n.n c.loop-n.invariant _ refl c.loop-n-test.true c.if-stage-ge-FINISHED.false (λ i. (c.type_inv.piece i).fits) c.advance-d.result _ c.advance-d.ensures)
+pub overflow_sub-rest : goal.overflow_sub-rest
+overflow_sub-rest c = omega (arith, some_more c.args.piece.now c.args.self (tables c.args.inputs.now c.args.outputs.now c.args.items.now) c.loop-rest.d (tables c.loop-rest.inputs c.loop-rest.outputs c.loop-rest.items) c.loop-rest.rest.now c.loop-rest.invariant (some_left _ _ c.is_empty.ensures c.loop-rest-test.true) c.if-d-lt-FINISHED.true c.advance-d.result (tables c.advance-d.new.inputs c.advance-d.new.outputs c.advance-d.new.items) c.advance-d.ensures)
 
-pub overflow_add-n : goal.overflow_add-n
-overflow_add-n c = omega (arith, some_more c.args.piece.now c.args.self (tables c.args.inputs.now c.args.outputs.now c.args.items.now) c.loop-n.d (tables c.loop-n.inputs c.loop-n.outputs c.loop-n.items) c.loop-n.n c.loop-n.invariant _ refl c.loop-n-test.true c.if-stage-ge-FINISHED.false (λ i. (c.type_inv.piece i).fits) c.advance-d.result _ c.advance-d.ensures, c.well_formed.1.0)
+pub slice_bounds-rest-count : goal.slice_bounds-rest-count
+slice_bounds-rest-count c = (some_more c.args.piece.now c.args.self (tables c.args.inputs.now c.args.outputs.now c.args.items.now) c.loop-rest.d (tables c.loop-rest.inputs c.loop-rest.outputs c.loop-rest.items) c.loop-rest.rest.now c.loop-rest.invariant (some_left _ _ c.is_empty.ensures c.loop-rest-test.true) c.if-d-lt-FINISHED.true c.advance-d.result (tables c.advance-d.new.inputs c.advance-d.new.outputs c.advance-d.new.items) c.advance-d.ensures).1
 
-pub loop-n-smaller : goal.loop-n-smaller
-loop-n-smaller c = omega (arith, some_more c.args.piece.now c.args.self (tables c.args.inputs.now c.args.outputs.now c.args.items.now) c.loop-n.d (tables c.loop-n.inputs c.loop-n.outputs c.loop-n.items) c.loop-n.n c.loop-n.invariant _ refl c.loop-n-test.true c.if-stage-ge-FINISHED.false (λ i. (c.type_inv.piece i).fits) c.advance-d.result _ c.advance-d.ensures)
+pub slice_bounds-rest-start : goal.slice_bounds-rest-start
+slice_bounds-rest-start c = (some_more c.args.piece.now c.args.self (tables c.args.inputs.now c.args.outputs.now c.args.items.now) c.loop-rest.d (tables c.loop-rest.inputs c.loop-rest.outputs c.loop-rest.items) c.loop-rest.rest.now c.loop-rest.invariant (some_left _ _ c.is_empty.ensures c.loop-rest-test.true) c.if-d-lt-FINISHED.true c.advance-d.result (tables c.advance-d.new.inputs c.advance-d.new.outputs c.advance-d.new.items) c.advance-d.ensures).1
 
-pub loop-n-preserved : goal.loop-n-preserved
-loop-n-preserved c = turn_next c.args.piece.now c.args.self (tables c.args.inputs.now c.args.outputs.now c.args.items.now) c.loop-n.d (tables c.loop-n.inputs c.loop-n.outputs c.loop-n.items) c.loop-n.n c.loop-n.invariant _ refl c.loop-n-test.true c.if-stage-ge-FINISHED.false (λ i. (c.type_inv.piece i).fits) c.advance-d.result _ c.advance-d.ensures
+pub loop-rest-smaller : goal.loop-rest-smaller
+loop-rest-smaller c = omega (arith, some_more c.args.piece.now c.args.self (tables c.args.inputs.now c.args.outputs.now c.args.items.now) c.loop-rest.d (tables c.loop-rest.inputs c.loop-rest.outputs c.loop-rest.items) c.loop-rest.rest.now c.loop-rest.invariant (some_left _ _ c.is_empty.ensures c.loop-rest-test.true) c.if-d-lt-FINISHED.true c.advance-d.result (tables c.advance-d.new.inputs c.advance-d.new.outputs c.advance-d.new.items) c.advance-d.ensures, length-drop (c.advance-d.result.taken - c.loop-rest.d.taken) c.loop-rest.rest.now)
 
-pub shape_of-inputs : goal.shape_of-inputs
-shape_of-inputs c = c.loop-n.invariant.lengths.inputs
+pub loop-rest-preserved : goal.loop-rest-preserved
+loop-rest-preserved c = turn_next c.args.piece.now c.args.self (tables c.args.inputs.now c.args.outputs.now c.args.items.now) c.loop-rest.d (tables c.loop-rest.inputs c.loop-rest.outputs c.loop-rest.items) c.loop-rest.rest.now c.loop-rest.invariant (some_left _ _ c.is_empty.ensures c.loop-rest-test.true) c.if-d-lt-FINISHED.true c.advance-d.result (tables c.advance-d.new.inputs c.advance-d.new.outputs c.advance-d.new.items) c.advance-d.ensures _ refl
 
-pub shape_of-outputs : goal.shape_of-outputs
-shape_of-outputs c = c.loop-n.invariant.lengths.outputs
+pub returns-else-d-lt-FINISHED : goal.returns-else-d-lt-FINISHED
+returns-else-d-lt-FINISHED c = turn_ended c.args.piece.now c.args.self (tables c.args.inputs.now c.args.outputs.now c.args.items.now) c.loop-rest.d (tables c.loop-rest.inputs c.loop-rest.outputs c.loop-rest.items) c.loop-rest.rest.now c.loop-rest.invariant c.if-d-lt-FINISHED.false
 
-pub shape_of-items : goal.shape_of-items
-shape_of-items c = c.loop-n.invariant.lengths.items
-
-pub returns : goal.returns
-returns c = turn_last c.args.piece.now c.args.self (tables c.args.inputs.now c.args.outputs.now c.args.items.now) c.loop-n.d (tables c.loop-n.inputs c.loop-n.outputs c.loop-n.items) c.loop-n.n c.loop-n.invariant c.loop-n-test.false
+pub returns-after-loop-rest : goal.returns-after-loop-rest
+returns-after-loop-rest c = turn_last c.args.piece.now c.args.self (tables c.args.inputs.now c.args.outputs.now c.args.items.now) c.loop-rest.d (tables c.loop-rest.inputs c.loop-rest.outputs c.loop-rest.items) c.loop-rest.rest.now c.loop-rest.invariant (none_left _ _ c.is_empty.ensures c.loop-rest-test.false)

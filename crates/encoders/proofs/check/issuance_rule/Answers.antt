@@ -1,4 +1,5 @@
 use Rattle.layout.specs.Writing.{issuance_rule}
+use Rattle.encoders.proofs.Judging.{zeros_at_6}
 use borrow.Author.Tests.{le-leb, lt-leb}
 use Rattle.encoders.proofs.check.issuance_rule.Goals as goal
 
@@ -8,4 +9,4 @@ returns-then-r-ge2 c = rw (le-leb _ _ c.if-r-ge2.true, c.issuance_lies.ensures, 
 
 pub returns : goal.returns
 unfolding issuance_rule
-returns c = rw (lt-leb _ _ c.if-r-ge2.false, c.zeros7.ensures)
+returns c = rw (lt-leb _ _ c.if-r-ge2.false, c.zeros.ensures, zeros_at_6 c.args.r.now c.told-r)

@@ -1,4 +1,5 @@
 use Rattle.layout.specs.Writing.{output_witness_rule}
+use Rattle.encoders.proofs.Judging.{zeros_at_10}
 use borrow.Author.Tests.{eq-eqb, ne_eqb}
 use Rattle.encoders.proofs.check.output_witness_rule.Goals as goal
 
@@ -8,4 +9,4 @@ returns-then-flag-eq1 c = rw (eq-eqb _ _ c.if-flag-eq1.true, c.lies.ensures, c.l
 
 pub returns : goal.returns
 unfolding output_witness_rule
-returns c = rw (ne_eqb _ _ c.if-flag-eq1.false, c.zeros4.ensures)
+returns c = rw (ne_eqb _ _ c.if-flag-eq1.false, c.zeros.ensures, zeros_at_10 c.args.r.now c.told-r)

@@ -1,2 +1,0 @@
--- Laws that the functions cite.
-pub mod Counting

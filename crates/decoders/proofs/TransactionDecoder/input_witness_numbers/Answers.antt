@@ -1,7 +1,0 @@
--- `TransactionDecoder::input_witness_numbers` meets its contract: it is the definition itself, by what its calls give.
-use Rattle.decoders.specs.Range.{input_witness_numbers}
-use Rattle.decoders.proofs.TransactionDecoder.input_witness_numbers.Goals as goal
-
-pub returns : goal.returns
-unfolding input_witness_numbers
-returns c = rw c.witness_numbers-numbers.ensures

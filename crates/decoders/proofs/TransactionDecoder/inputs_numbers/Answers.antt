@@ -1,7 +1,0 @@
--- `TransactionDecoder::inputs_numbers` meets its contract: it is the definition itself, by what its calls give.
-use Rattle.decoders.specs.Range.{inputs_numbers}
-use Rattle.decoders.proofs.TransactionDecoder.inputs_numbers.Goals as goal
-
-pub returns : goal.returns
-unfolding inputs_numbers
-returns c = rw (c.unwitnessed-numbers.ensures, c.field_range-open.ensures)

@@ -1,7 +1,0 @@
--- `TransactionDecoder::output_numbers` meets its contract: it is the definition itself, by what its calls give.
-use Rattle.decoders.specs.Range.{output_numbers}
-use Rattle.decoders.proofs.TransactionDecoder.output_numbers.Goals as goal
-
-pub returns : goal.returns
-unfolding output_numbers
-returns c = rw (c.unwitnessed-numbers.ensures, c.field_range-open.ensures)

@@ -1,8 +1,0 @@
-use Rattle.decoders.proofs.Branches.{outputs_fit, outputs_many}
-use Rattle.decoders.proofs.TransactionDecoder.outputs_counted.Goals as goal
-
-pub returns-then-n-room : goal.returns-then-n-room
-returns-then-n-room c = cc (outputs_fit c.args.start c.args.n c.args.self c.if-n-room.true)
-
-pub returns-else-n-room : goal.returns-else-n-room
-returns-else-n-room c = cc (outputs_many c.args.start c.args.n c.args.self c.if-n-room.false)

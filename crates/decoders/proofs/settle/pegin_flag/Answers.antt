@@ -1,8 +1,0 @@
-use Rattle.decoders.proofs.Vout.{flag_none, flag_shifted}
-use Rattle.decoders.proofs.settle.pegin_flag.Goals as goal
-
-pub returns-then-raw-eq4294967295 : goal.returns-then-raw-eq4294967295
-returns-then-raw-eq4294967295 c = flag_none 30 c.args.raw c.if-raw-eq4294967295.true
-
-pub returns-else-raw-eq4294967295 : goal.returns-else-raw-eq4294967295
-returns-else-raw-eq4294967295 c = flag_shifted 30 c.args.raw c.if-raw-eq4294967295.false

@@ -1,8 +1,0 @@
-use Rattle.std.proofs.Common.{◌-◌, ◌≤◌}
-use Rattle.show.proofs.record.twenty.Given as goal
-
-abbrev pub invariant-loop-c : goal.invariant-loop-c
-invariant-loop-c l = l.c ≤ 20
-
-abbrev pub decreases-loop-c : goal.decreases-loop-c
-decreases-loop-c l = 20 - l.c

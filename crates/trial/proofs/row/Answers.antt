@@ -1,2 +1,0 @@
-use Rattle.std.proofs.Common.{◌-◌, ◌≤◌, length, rules}
-use Rattle.trial.proofs.row.Goals as goal
