@@ -15,7 +15,7 @@ const STDOUT_FILENO: i32 = 1;
 const STDERR_FILENO: i32 = 2;
 
 // The input that was taken. Whole: it ended after so many bytes, which stand at the buffer's start. Longer: the buffer is full, and at least
-// one byte follows.
+// one byte follows. No Option: `take` has one around it, and there None says that no input came.
 #[derive(Clone, Copy)]
 pub enum Taken {
     Whole(usize),
@@ -149,6 +149,7 @@ pub fn with_input<R: Env + Files + Input, T, F: FnOnce(&[u8]) -> T>(
     }
 }
 
+// By io, here and in the programs: `print!` would want the runtime in every function that prints, and hand back a failure that nobody reads.
 pub fn text(s: &[u8]) {
     io::write_all(STDOUT_FILENO, s);
 }

@@ -3,7 +3,7 @@
 use Rattle.std.specs.Prelude.{◌≡◌, ℕ, Option, None, Some, refl}
 use Rattle.std.proofs.Common.{zero, suc, sym, ◌∙◌, ap}
 use borrow.Author.Tests.{ne_eqb}
-use Rattle.confidential.specs.Width.{listed}
+use Rattle.confidential.specs.Width.{value_width, asset_width, nonce_width, listed}
 use Rattle.confidential.specs.contracts.value.Value as value
 use Rattle.confidential.specs.contracts.value.ValueConfidential.TheImpl as value_impl
 use Rattle.confidential.specs.contracts.asset.Asset as asset
@@ -35,3 +35,13 @@ listed_back (suc w) = simp (ne_eqb (suc w) 0 (λ e. cc))
 
 pub width_or_0 : (K : _) (laws : _) (ghosts : _) (dict : _) (κ : _) (args : _) (r : Option ℕ) (exit : _) → width.Post K laws ghosts dict κ args r exit → or_0 r ≡ ghosts.width args.0
 width_or_0 K laws ghosts dict κ args r exit p = ap or_0 p ∙ listed_back _
+
+-- of each of the three
+pub value_width_or_0 : (laws : _) (dict : _) (κ : _) (args : _) (r : Option ℕ) (exit : _) → width.Post value.the_row laws value_impl.ghosts dict κ args r exit → or_0 r ≡ value_width args.0
+value_width_or_0 laws = width_or_0 value.the_row laws value_impl.ghosts
+
+pub asset_width_or_0 : (laws : _) (dict : _) (κ : _) (args : _) (r : Option ℕ) (exit : _) → width.Post asset.the_row laws asset_impl.ghosts dict κ args r exit → or_0 r ≡ asset_width args.0
+asset_width_or_0 laws = width_or_0 asset.the_row laws asset_impl.ghosts
+
+pub nonce_width_or_0 : (laws : _) (dict : _) (κ : _) (args : _) (r : Option ℕ) (exit : _) → width.Post nonce.the_row laws nonce_impl.ghosts dict κ args r exit → or_0 r ≡ nonce_width args.0
+nonce_width_or_0 laws = width_or_0 nonce.the_row laws nonce_impl.ghosts

@@ -20,7 +20,7 @@ fn byte(high: u8, low: u8) -> Option<u8> {
 }
 
 // Puts the bytes that the digits tell at the start, and says how many they are: none where anything but digits is there, a half byte, or
-// more than 9.
+// more than 9. An array with room for one byte more: the byte behind the last is read too.
 fn spelt(digits: &[u8], out: &mut [u8; 10]) -> Option<usize>
     ensures { MatchOption result ⊤ (λ n. n ≤ 9) }
 {

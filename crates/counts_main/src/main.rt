@@ -16,6 +16,7 @@ struct Tally {
     differences: usize,
 }
 
+// As `trial`'s and `command`'s `text` and `number`: this program needs nothing else of theirs.
 fn text(s: &[u8]) {
     io::write_all(STDOUT_FILENO, s);
 }

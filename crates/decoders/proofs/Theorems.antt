@@ -16,6 +16,7 @@ use Rattle.layout.specs.Outcome as outcome
 use Rattle.layout.specs.Outcome.{Tables, Outcome, laid, shown, partial, at_once, strict, reading_of, Agree}
 use Rattle.layout.proofs.Reading.{by_cases}
 use Rattle.layout.proofs.Theorems as of_layout
+use Rattle.encode.proofs.Refusals.{kind_of, number_of_kind}
 use Rattle.decoders.specs.declared.Sizes.{Sizes}
 use Rattle.decoders.specs.declared.Answer.{Answer}
 use Rattle.decoders.specs.declared.Answer.TheVariants.{Finished, More, Refused}
@@ -36,6 +37,10 @@ pub told_numbers : (a : Answer) → (told_number a ≡ outcome.number_of (told a
 told_numbers (Finished h) = (refl, refl, refl)
 told_numbers More = (refl, refl, refl)
 told_numbers (Refused r) = (refl, refl, refl)
+
+-- and each of 01's fourteen numbers is told by a kind
+pub told_each : (n p : ℕ) → 1 ≤ n → n ≤ 14 → told (Refused (record { kind = kind_of n; place = p })) ≡ layout.refused n p
+told_each n p l h = ap (λ (m : ℕ). layout.refused m p) (number_of_kind n l h)
 
 -- ---- demand 1: it never trusts the caller
 

@@ -180,6 +180,7 @@ impl Settling {
         }
     }
 
+    // Stage, start and n by themselves, here and in what it calls, as its definitions in specs/Machine take them.
     pub(crate) fn compact_settled(self, stage: usize, start: usize, n: usize) -> Settled
         ensures { result ≡ compact_settled stage start n self.decoder }
     {

@@ -21,7 +21,8 @@ ghost use Rattle.decoders.specs.Feeding.{tables, begun, out_of, pushed, ended, w
 
 pub use encode::{Refusal, RefusalKind};
 
-// The field that is being gathered: its stage and form, its width in bytes, how many of them are there, and what they are worth.
+// The field that is being gathered: its stage and form, its width in bytes, how many of them are there, and what they are worth. All numbers,
+// stage and form too: stages.rt says why.
 #[derive(Clone, Copy, Default)]
 pub struct Field {
     pub stage: usize,
@@ -50,7 +51,8 @@ pub struct Counts {
     pub locktime: usize,
 }
 
-// Where the reading stands: the record's number, the items left in its stack, and what later fields need of earlier ones.
+// Where the reading stands: the record's number, the items left in its stack, and what later fields need of earlier ones, each 0 or 1: stages.rt
+// says why as numbers.
 #[derive(Clone, Copy, Default, PartialEq, Eq)]
 pub struct Spot {
     pub index: usize,
@@ -105,7 +107,8 @@ pub struct Head {
     pub bytes: u32,
 }
 
-// Finished is answer 0; more wanted is a case by itself; a refusal has its kind and place.
+// Finished is answer 0; more wanted is a case by itself; a refusal has its kind and place. Not `Result<Option<Head>, Refusal>`: more wanted is
+// no finished reading without a head, and 01 has three answers.
 #[derive(Clone, Copy)]
 pub enum Answer {
     Finished(Head),
@@ -138,7 +141,8 @@ impl TransactionDecoder {
 
     pub const ITEM_WIDTH: usize = 2;
 
-    // The fresh start: every number of the lent tables is set to 0.
+    // The fresh start: every number of the lent tables is set to 0. Three slices, here and below: 01's form, and C lends them so; tables.rt has
+    // what was tried within.
     pub fn new(inputs: &mut [u32], outputs: &mut [u32], items: &mut [u32]) -> TransactionDecoder
         ensures { machine result (tables inputs.new outputs.new items.new) ≡ begun (tables inputs.old outputs.old items.old) }
     {

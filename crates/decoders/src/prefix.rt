@@ -8,7 +8,8 @@ use confidential::{Asset, Confidential, Nonce, Value};
 use encode::RefusalKind;
 
 impl Settling {
-    // Behind prefix 1 a value has a number of 8 bytes. 5: prefix not listed.
+    // By the width, as specs/Machine: part. 9 is an explicit value, with a number of 8 bytes; 33 has 32 bytes that are never looked at. 5: prefix
+    // not listed.
     fn part<K: Confidential>(self) -> TransactionDecoder
         ensures { result ≡ part (K.width self.decoder.field.value) self.decoder }
     {

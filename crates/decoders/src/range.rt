@@ -423,7 +423,8 @@ impl TransactionDecoder {
         (self.counts.items <= room) & fits
     }
 
-    // Stage 26: refused, value the number and have the place. By numbers: of the kinds, 9 to 14 never stand in a state, and Numbered asks for 1 to 8.
+    // Stage 26: refused, value the number and have the place. By numbers: no
+    // state is handed back with 9 to 14, and Numbered asks for 1 to 8.
     #[tactic(auto, unfolding(crate::specs::Range::refused_range))]
     pub(crate) fn refused_range(self) -> bool
         ensures { result ≡ refused_range self }

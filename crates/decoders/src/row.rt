@@ -87,7 +87,7 @@ impl Kind {
     }
 }
 
-// The bytes of a count or length.
+// The bytes of a count or length. `encoders` has it of a u32, without 9: each promises its own bound, by which sums don't wrap.
 #[tactic(auto, unfolding(crate::specs::Range::size))]
 pub(crate) fn size(n: usize) -> usize
     ensures { Sized 9 result (size n) }

@@ -10,12 +10,16 @@ use Rattle.std.specs.Prelude.{Result, Ok, Err}
 use Rattle.encode.specs.declared.refusal.Refusal.{Refusal}
 use Rattle.encode.specs.declared.refusal.RefusalKind.{RefusalKind}
 use Rattle.encode.specs.declared.refusal.RefusalKind.TheVariants.{EndsEarly}
+use Rattle.encode.specs.declared.refusal.UnlistedNumber.{UnlistedNumber}
 use Rattle.encode.specs.Count.{answer_of}
 use Rattle.encode.specs.Refusal as kind
-use Rattle.encode.proofs.Refusals.{kind_of, kind_of_number}
+use Rattle.encode.proofs.Refusals.{kind_of, kind_of_number, same_kind}
 use Rattle.encode.proofs.announced.Reads as announced
 use Rattle.encode.proofs.is_shortest.Reads as is_shortest
 use Rattle.encode.proofs.read_count.Reads as read_count
+use Rattle.encode.proofs.refusal.RefusalKind.number.Reads as number
+use Rattle.encode.proofs.refusal.RefusalKind.at.Reads as placed
+use Rattle.encode.proofs.refusal.RefusalKindTryFromUsize.try_from.Reads as try_from
 
 pub one_outcome_announced : (κ : _) (args : _) (r r' : ℕ) (exit exit' : _) → announced.Post κ args r exit → announced.Post κ args r' exit' → r ≡ r'
 one_outcome_announced κ args r r' exit exit' p q = p ∙ sym q
@@ -39,3 +43,22 @@ told_back (Err e) = ap (λ (k : RefusalKind). Err (record { kind = k; place = e.
 
 pub one_outcome_read_count : (κ : _) (args : _) (r r' : Result ℕ Refusal) (exit exit' : _) → read_count.Post κ args r exit → read_count.Post κ args r' exit' → r ≡ r'
 one_outcome_read_count κ args r r' exit exit' p q = sym (told_back r) ∙ ap told (p ∙ sym q) ∙ told_back r'
+
+pub one_outcome_number : (κ : _) (args : _) (r r' : ℕ) (exit exit' : _) → number.Post κ args r exit → number.Post κ args r' exit' → r ≡ r'
+one_outcome_number κ args r r' exit exit' p q = p ∙ sym q
+
+pub one_outcome_at : (κ : _) (args : _) (r r' : Refusal) (exit exit' : _) → placed.Post κ args r exit → placed.Post κ args r' exit' → r ≡ r'
+one_outcome_at κ args r r' exit exit' p q =
+    let a = placed.post-apart κ args r exit p in
+    let b = placed.post-apart κ args r' exit' q in
+    λ i. record { kind = (a.kind ∙ sym b.kind) i; place = (a.place ∙ sym b.place) i }
+
+-- a number is that of one kind, or of none
+decodes_one : (n : ℕ) (r r' : Result RefusalKind UnlistedNumber) → kind.Decodes n r → kind.Decodes n r' → r ≡ r'
+decodes_one n (Ok k) (Ok k') p q = ap Ok (same_kind k k' (p ∙ sym q))
+decodes_one n (Ok k) (Err e) p q = absurd (q.1 k p)
+decodes_one n (Err e) (Ok k) p q = absurd (p.1 k q)
+decodes_one n (Err e) (Err e') p q = λ i. Err (record { 0 = (p.0 ∙ sym q.0) i })
+
+pub one_outcome_try_from : (κ : _) (args : _) (r r' : Result RefusalKind UnlistedNumber) (exit exit' : _) → try_from.Post κ args r exit → try_from.Post κ args r' exit' → r ≡ r'
+one_outcome_try_from κ args r r' exit exit' p q = decodes_one _ r r' p q

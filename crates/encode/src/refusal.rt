@@ -34,7 +34,7 @@ pub struct Refusal {
 pub struct UnlistedNumber(pub usize);
 
 impl RefusalKind {
-    // Its number in the documents.
+    // Its number in the documents. A method and no From: the promises cite its clause.
     pub fn number(self) -> usize
         ensures { result ≡ number_of self }
     {

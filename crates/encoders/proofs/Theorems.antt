@@ -1,6 +1,7 @@
 -- The writer beside the reader: the round trips said of the promises of both. The theorems about the definitions stand in
 -- layout/proofs/RoundTrips.
 --     told_verdict      the answer tells 01's number, place and length
+--     verdict_each      each of 01's fourteen numbers is told by a kind
 --     head_given_lem    the writer takes the head numbers that the reader tells
 --     written_back      what `read` finished on, `write` gives back: the same bytes
 --     reads_back_lem    what `write` wrote, `read` finishes on: the same head numbers, tables that show the same transaction, the same bodies
@@ -44,6 +45,7 @@ use Rattle.encode.specs.declared.refusal.Refusal as refusal
 use Rattle.encode.specs.declared.refusal.RefusalKind.{RefusalKind}
 use Rattle.encode.specs.declared.refusal.RefusalKind.TheVariants.{LimitPassed, OutputShort}
 use Rattle.encode.specs.Refusal.{number_of}
+use Rattle.encode.proofs.Refusals.{kind_of, number_of_kind}
 use Rattle.encoders.proofs.Refusals.{told_alike}
 use Rattle.encoders.specs.Answers.{told, told_number, told_place, told_length, head_numbers, out_of}
 
@@ -58,6 +60,10 @@ refused_with kind place = Err (record { kind = kind; place = place })
 pub told_verdict : (r : Answered) → (told_number r ≡ verdict_number (told r)) × (told_place r ≡ verdict_place (told r)) × (told_length r ≡ verdict_length (told r))
 told_verdict (Ok n) = (refl, refl, refl)
 told_verdict (Err e) = (refl, refl, refl)
+
+-- each of 01's fourteen numbers is told by a kind
+pub verdict_each : (n p : ℕ) → 1 ≤ n → n ≤ 14 → told (refused_with (kind_of n) p) ≡ layout_written.unwritten n p
+verdict_each n p l h = ap (λ (m : ℕ). layout_written.unwritten m p) (number_of_kind n l h)
 
 pub head_given_lem : (h : Head) → head_numbers h ≡ told_head (Finished h)
 head_given_lem h = refl

@@ -11,7 +11,7 @@ ghost use Rattle.encoders.specs.Needs.{record_faults, broken};
 use crate::table::{InputRow, ItemRow, OutputRow, Transaction};
 use encode::{Refusal, RefusalKind};
 
-// ---- 13: each rule is its definition
+// ---- 13: each rule is its definition. `flag` and `there` go by themselves, as the definitions take them: a struct would be opened in each clause.
 
 // A position plus length stays in the source, of which so many bytes are there.
 pub(crate) fn lies(there: usize, at: u32, n: u32) -> bool
@@ -26,7 +26,8 @@ pub(crate) fn value_rule(prefix: u32, high: u32, low: u32) -> bool
     (prefix == 1) | (((prefix == 0) | (prefix == 8) | (prefix == 9)) & (high == 0) & (low == 0))
 }
 
-// A value's 1, 9 or 33 bytes, whatever the prefix; `confidential`'s width is 0 where a prefix is not listed, and 01's `value_width` is 33 there.
+// A value's 1, 9 or 33 bytes, whatever the prefix. `confidential`'s width is none where a prefix is not listed; 01's `value_width` is 33 there,
+// and these three arms are its definition.
 pub(crate) fn value_width(prefix: u32) -> usize
     ensures { result ≡ value_width prefix }
 {
@@ -83,8 +84,8 @@ pub(crate) fn input_rule(flag: u32, there: usize, first: usize, r: &InputRow) ->
         & input_witness_rule(flag, there, first, r)
 }
 
-// Positions of null fields and of an output's explicit value are not read. The prefixes stand here, and not as `confidential`'s, until 02's
-// request T-05, which makes them one decision over the prefix for each kind.
+// Positions of null fields and of an output's explicit value are not read. The two lists stand as 01's
+// `token_rule` has them: `Confidential` knows widths, so one function over it would need a law from widths to lists for these two lines.
 pub(crate) fn asset_rule(there: usize, at: u32, prefix: u32) -> bool
     ensures { result ≡ token_rule asset_prefix there at prefix }
 {

@@ -27,7 +27,7 @@ pub(crate) fn body_width(n: u32) -> usize
     compact_width(n) + n as usize
 }
 
-// An asset's or a nonce's 1 or 33 bytes.
+// An asset's or a nonce's 1 or 33 bytes; 33 also where the prefix is not listed, as `value_width`.
 pub(crate) fn token_width(prefix: u32) -> usize
     ensures { Measures 34 result (token_width prefix) }
 {

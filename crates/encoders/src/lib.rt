@@ -25,6 +25,7 @@ pub fn is_fee(output: [u32; 14]) -> bool
     output[9] == 0
 }
 
+// Head, tables and source go in one by one: 01's form, and C's; within they are one `Transaction`.
 // The written length, or the first fault but 14.
 pub fn written_length(
     head: Head,

@@ -13,6 +13,7 @@ fn copy_array<const N: usize>(bytes: &[u8; N], out: &mut [u8])
     }
 }
 
+// By index, as `copy_long`: behind `iter_mut` or `as_chunks_mut` a proof knows a slice's length, not its elements.
 fn copy_bytes(bytes: &[u8], out: &mut [u8])
     requires { length bytes.now ≡ length out.old }
     ensures { out.new ≡ bytes.now }
@@ -36,7 +37,8 @@ fn copy_long(bytes: &[u8], out: &mut [u8])
     copy_bytes(&bytes[at..], &mut out[at..]);
 }
 
-// A number of 4 bytes and a hash go as arrays, which are a move or two; the rest byte after byte.
+// A number of 4 bytes and a hash go as arrays, which are a move or two; the rest in blocks, then byte after byte. Each of the three asks for
+// equal lengths: no type holds two slices of one length.
 // `copy_from_slice` compiles to C's `memmove`: the library is to need nothing but `memcpy` and `memset` (README).
 fn copy(bytes: &[u8], out: &mut [u8])
     requires { length bytes.now ≡ length out.old }
@@ -53,6 +55,7 @@ fn copy(bytes: &[u8], out: &mut [u8])
     copy_long(bytes, out);
 }
 
+// A slice and a place, no Vec: the output is the caller's.
 #[derive(Drop)]
 pub(crate) struct Store<'a> {
     pub(crate) out: &'a mut [u8],

@@ -33,7 +33,7 @@ pub(crate) fn rows<const N: usize>(table: &[u32], n: usize) -> &[[u32; N]]
     &all[..n]
 }
 
-// No count exceeds its table. The sizes are in numbers.
+// No count exceeds its table. The sizes are in numbers; `decoders`' `Sizes` would be made here only to be taken apart.
 fn held(head: Head, inputs: usize, outputs: usize, items: usize) -> bool
     ensures { result ≡ (leb head.inputs (inputs / 20) && leb head.outputs (outputs / 14) && leb head.items (items / 2)) }
 {

@@ -8,6 +8,7 @@
 //     w, m      what should be written instead: one byte, w123=9; m6,875,32: from byte 6 on, the source's 32 from 875 on
 use crate::load;
 
+// `parse` takes text, and can fail: these are bytes.
 fn value(digits: &[u8]) -> u32 {
     digits.iter().fold(0u32, |n, d| {
         n.wrapping_mul(10).wrapping_add(u32::from(*d % 16))

@@ -25,23 +25,17 @@ fn answer(no: usize, place: usize, length: usize) {
     trial::number(length);
 }
 
-// The written length, 0 for a refusal. Its number and place have no ` at ` between them here, so Refusal's Display isn't it.
-fn told(w: Result<usize, Refusal>) -> usize {
+// A refusal's number and place have no ` at ` between them here, so its Display isn't it.
+fn told(w: Result<usize, Refusal>) {
     match w {
-        Ok(n) => {
-            answer(0, 0, n);
-            n
-        }
-        Err(refusal) => {
-            answer(refusal.kind.number(), refusal.place, 0);
-            0
-        }
+        Ok(n) => answer(0, 0, n),
+        Err(refusal) => answer(refusal.kind.number(), refusal.place, 0),
     }
 }
 
-// The output after a writing of n bytes, 0 for a refused one.
-fn left(n: usize, out: &[u8], wanted: &[u8]) {
-    let Some((written, kept)) = out.split_at_checked(n) else {
+// The output after a writing of so many bytes, or after a refused one.
+fn left(n: Option<usize>, out: &[u8], wanted: &[u8]) {
+    let Some((written, kept)) = out.split_at_checked(n.unwrap_or(0)) else {
         trial::text(b", WRONG BYTES\n");
         return;
     };
@@ -53,7 +47,7 @@ fn left(n: usize, out: &[u8], wanted: &[u8]) {
         trial::text(b", TOUCHED\n");
         return;
     }
-    if n == 0 {
+    if n.is_none() {
         trial::text(b", untouched\n");
         return;
     }
@@ -84,8 +78,8 @@ fn counted(out: &[u8]) {
 }
 
 impl Given<'_> {
-    // Writes into the output, every byte of it marked before, and asks for the length alone; the bytes written, 0 for a refusal.
-    fn written(self, out: &mut [u8]) -> usize {
+    // Writes into the output, every byte of it marked before, and asks for the length alone; how many bytes were written, none for a refusal.
+    fn written(self, out: &mut [u8]) -> Option<usize> {
         trial::text(b" ");
         out.fill(MARK);
         let w = encoders::write(
@@ -96,7 +90,7 @@ impl Given<'_> {
             self.source,
             out,
         );
-        let n = told(w);
+        told(w);
         trial::text(b", alone ");
         let alone = encoders::written_length(
             self.head,
@@ -106,7 +100,7 @@ impl Given<'_> {
             self.source,
         );
         told(alone);
-        n
+        w.ok()
     }
 
     pub(crate) fn line(self, wanted: &[u8], out: &mut [u8]) {

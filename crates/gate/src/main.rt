@@ -26,7 +26,8 @@ pub struct Line {
     pub items: u32,
 }
 
-// What came of an input that could be read, and what is told of it. Settled: before its end, and whatever follows.
+// What came of an input that could be read, and what is told of it. Settled: before its end, and whatever follows. Neither is an error: both
+// ends tell a line, and `Judged` says of each what of the input it rests on.
 #[derive(Drop)]
 pub enum Seen<T> {
     Ended(T),
@@ -71,7 +72,8 @@ fn verdict(answer: Answer, taken: usize, follows: bool) -> Line
 }
 
 // Reads standard input through the buffer, again and again, and feeds what came. A refusal ends it, and so does a byte behind a finished
-// transaction; a transaction that is finished with the bytes read so far needs one more read.
+// transaction; a transaction that is finished with the bytes read so far needs one more read. Three slices, here and in `answer`, as the library
+// takes them: the promise is of tables of any size.
 fn listen(
     mut input: Stdin,
     buffer: &mut [u8],

@@ -33,7 +33,7 @@ fn hex(body: &[u8]) {
     }
 }
 
-// As `place` and `prefix`, texts and a number that io prints: a type with a Display for each would be made here only to be printed here.
+// By io, as `place` and `prefix`: see `command::text`.
 pub(crate) fn number(name: &[u8], n: u32) {
     text(name);
     command::number(u64::from(n));

@@ -8,6 +8,7 @@ mod record;
 
 use decoders::{Answer, RefusalKind, TransactionDecoder};
 
+// Three slices, as `read_strict` takes them.
 fn tables(source: &[u8], inputs: &mut [u32], outputs: &mut [u32], items: &mut [u32]) {
     let read = TransactionDecoder::read_strict(source, inputs, outputs, items);
     match read.answer {
@@ -29,6 +30,7 @@ fn transaction(source: &[u8]) {
     tables(source, &mut inputs, &mut outputs, &mut items);
 }
 
+// The program's own words; the step between is `command::with_input`, which `write_back` has too.
 fn main(rt: HostRuntime) {
     command::with_input(
         &rt,

@@ -6,7 +6,7 @@
 use decoders::TransactionDecoder;
 use trial::{Reading, Tables};
 
-// Marks the tables, feeds a piece.
+// Marks the tables, feeds a piece. This and `finish` are one call apart, which a closure would make no shorter.
 fn feed<const I: usize, const O: usize, const N: usize>(
     t: &mut Tables<I, O, N>,
     d: TransactionDecoder,

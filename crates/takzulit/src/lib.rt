@@ -1,4 +1,5 @@
-// The reader and the writer over plain numbers, fixed arrays and slices. The crate `takzulit_c` exports these functions, as include/takzulit.h declares them.
+// The reader and the writer over plain numbers, fixed arrays and slices. The crate `takzulit_c` exports these functions, as include/takzulit.h declares them:
+// state, head, answer and tables are as C lends them, and each function of C's is one here.
 #![tactic(auto)]
 
 mod pack;

@@ -8,7 +8,7 @@ ghost use Rattle.encoders.specs.Answers as writer;
 use decoders::{Answer, Counts, Field, Head, Sizes, Spot, TransactionDecoder};
 use encode::Refusal;
 
-// More wanted is a case by itself, and no number of document 01's.
+// A number, since C has it so (TAKZULIT_MORE): more wanted is a case by itself, and no number of document 01's.
 pub const MORE: usize = 255;
 
 // A reading state as C keeps it.
@@ -110,7 +110,7 @@ impl From<HeadNumbers> for Head {
     }
 }
 
-// Number, place, and the bytes taken.
+// Number, place, and the bytes taken. This, `head` and `written` are arrays as C lends them.
 pub fn answer(told: Answer, taken: usize) -> [usize; 3]
     ensures { result ≡ answer_numbers (told_number told) (told_place told) taken }
 {

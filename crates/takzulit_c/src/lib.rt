@@ -1,4 +1,5 @@
 // The library that Rust and C link: the functions of `takzulit` under C names, each with the same clauses. include/takzulit.h declares it.
+// Once more, since a crate is a library or a static one.
 #![tactic(auto)]
 
 ghost use Rattle.std.specs.Prelude.{◌≡◌};

@@ -13,7 +13,7 @@ pub struct Reading<const I: usize, const O: usize, const N: usize> {
     pub fed: Fed,
 }
 
-// How many of the bytes left the next piece has; size 0: all.
+// How many of the bytes left the next piece has; size 0: all, and no Option, since the programs try 0, 1 and a step in one list.
 fn piece_of(size: usize, left: usize) -> usize
     requires { 0 < left }
     ensures some { 0 < result }

@@ -37,7 +37,8 @@ fn told(reached: Result<usize, usize>, n: usize, there: usize) -> Outcome
     }
 }
 
-// Pass 1 of writing judges head, tables and source; what pass 2 would put is held beside the source.
+// Pass 1 of writing judges head, tables and source; what pass 2 would put is held beside the source. Three slices, here and in `read`, as the
+// library takes them: the promises are of tables of any size.
 fn written(head: Head, source: &[u8], inputs: &[u32], outputs: &[u32], items: &[u32]) -> Outcome
     ensures { Rewritten (head_numbers head) (tables inputs.now outputs.now items.now) source.now result }
 {
@@ -100,6 +101,7 @@ fn transaction(source: &[u8]) {
     print(outcome);
 }
 
+// The program's own words; the step between is `command::with_input`, which `show` has too.
 fn main(rt: HostRuntime) {
     command::with_input(
         &rt,

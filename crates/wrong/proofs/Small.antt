@@ -7,11 +7,7 @@ use lib.Dec.{leb, eqb}
 use lib.ListN.{get_or}
 use Rattle.layout.specs.Layout.{Answer, finished, more, refused}
 use Rattle.layout.specs.Transaction.{announced, least}
-use Rattle.std.specs.Prelude.{Result, Ok, Err}
-use Rattle.encode.specs.declared.refusal.Refusal.{Refusal}
-use Rattle.encode.specs.declared.refusal.RefusalKind.{RefusalKind}
-use Rattle.encode.specs.Count.{answer_of, counted}
-use Rattle.encode.proofs.Theorems.{told}
+use Rattle.encode.specs.Count.{counted}
 use Rattle.confidential.specs.Width.{value_width, asset_width, nonce_width}
 use Rattle.loads.proofs.Loads.{hex}
 use Rattle.wrong.proofs.Loads.{computes, apart}
@@ -27,40 +23,37 @@ case (finished n) = 0
 case more = 2
 case (refused n p) = 1
 
-abbrev Wrong : (List ℕ → Result ℕ Refusal) → List ℕ → Type 0
-Wrong p xs = answer_of (p xs) ≡ counted xs → ⊥
-
--- the right answer as a case of the result
-abbrev right : List ℕ → Result ℕ Refusal
-right xs = told (counted xs)
+-- programs give 01's own answers: a refusal may have any number, not only a kind's
+abbrev Wrong : (List ℕ → Answer ℕ) → List ℕ → Type 0
+Wrong p xs = p xs ≡ counted xs → ⊥
 
 -- the first byte is always the value: no length above 252 would be read
-abbrev first_byte : List ℕ → Result ℕ Refusal
-first_byte xs = Ok (get_or xs 0 0)
+abbrev first_byte : List ℕ → Answer ℕ
+first_byte xs = finished (get_or xs 0 0)
 
 pub first_byte_wrong : Wrong first_byte (hex "fe00000100")
 unfolding computes
 first_byte_wrong = apart number 354 65636 refl refl refl
 
--- refuses all
-abbrev refusing : RefusalKind → ℕ → List ℕ → Result ℕ Refusal
-refusing k p xs = Err (record { kind = k; place = p })
+-- refuses all, by any number and place
+abbrev refusing : ℕ → ℕ → List ℕ → Answer ℕ
+refusing n p xs = refused n p
 
-pub refusing_wrong : (k : RefusalKind) (p : ℕ) → Wrong (refusing k p) (hex "fc")
+pub refusing_wrong : (n p : ℕ) → Wrong (refusing n p) (hex "fc")
 unfolding computes
-refusing_wrong k p = apart case 1 0 refl refl refl
+refusing_wrong n p = apart case 1 0 refl refl refl
 
 -- any form passes: one count would have two writings
-abbrev any_form : List ℕ → Result ℕ Refusal
-any_form xs = cond (eqb (number (counted xs)) 3) (Ok 252) (right xs)
+abbrev any_form : List ℕ → Answer ℕ
+any_form xs = cond (eqb (number (counted xs)) 3) (finished 252) (counted xs)
 
 pub any_form_wrong : Wrong any_form (hex "fdfc00")
 unfolding computes
 any_form_wrong = apart number 352 3 refl refl refl
 
 -- a cut count is 0: a cut transaction would be misread
-abbrev cut_is_none : List ℕ → Result ℕ Refusal
-cut_is_none xs = cond (eqb (number (counted xs)) 1) (Ok 0) (right xs)
+abbrev cut_is_none : List ℕ → Answer ℕ
+cut_is_none xs = cond (eqb (number (counted xs)) 1) (finished 0) (counted xs)
 
 pub cut_is_none_wrong : Wrong cut_is_none (hex "fdfd")
 unfolding computes
