@@ -18,7 +18,7 @@ struct Lent {
 pub(crate) struct Load {
     head: Head,
     tables: Tables<60, 56, 8>,
-    // 907 bytes, the longest load's, in both: no heap, and no other place that a slice could be of
+    // 907 bytes, the longest load's, in both: cases change `wanted`, and the source is made and cut in the same way
     source: [u8; 907],
     wanted: [u8; 907],
     lent: Lent,
