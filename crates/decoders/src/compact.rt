@@ -116,7 +116,7 @@ impl Settling {
     }
 
     // 4: the count exceeds the records left in its table. Each of the four counts meets a definition of its own (inputs_counted and so on, in
-    // specs/Machine): they differ in the room, in what enters, and in what is opened, and share the test alone.
+    // specs/Machine): they differ in the room, in what enters, and in what is opened, and share the test, the two stacks what is left.
     pub(crate) fn inputs_counted(mut self, start: usize, n: usize) -> Settled
         ensures { result ≡ inputs_counted start n self.decoder }
     {
