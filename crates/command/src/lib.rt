@@ -1,8 +1,7 @@
 // What the programs that take one transaction share: the input, from a file or from standard input, and pieces of the lines they print.
 #![tactic(auto)]
 
-ghost use Rattle.std.specs.Prelude.{ℕ, List, ◌≤◌, length, IfOk, IfSome};
-ghost use Rattle.std.specs.Fn.{FnOnceReturnsAt};
+ghost use Rattle.std.specs.Prelude.{◌≤◌, length, IfOk, IfSome};
 ghost use Rattle.command.specs.Within.{Within};
 
 use std::env::{Env, FillError};
@@ -126,26 +125,19 @@ pub fn take<R: Env + Files + Input>(
     }
 }
 
-// One byte more than a transaction can have: what follows moves no answer (show/proofs/Theorems: limit_settles). Made apart, so that its bytes
-// are not looked at where it is lent.
-fn bytes() -> [u8; 4000001] {
-    [0u8; 4000001]
-}
-
-// Takes the program's input, and hands what came to `transaction`; its result, where there is an input.
-pub fn with_input<R: Env + Files + Input, T, F: FnOnce(&[u8]) -> T>(
+// Takes the program's input, and hands back what came: all of it, or a full buffer where more follows. The buffer has one byte more than a
+// transaction can have: what follows moves no answer (show/proofs/Theorems: limit_settles).
+pub fn with_input<'a, R: Env + Files + Input>(
     rt: &R,
     usage: &[u8],
     help: &[u8],
-    transaction: F,
-) -> Option<T>
-    requires { F.IsAlwaysCallable transaction }
-    ensures { IfSome result (λ r. (piece : List ℕ) × FnOnceReturnsAt F.FnOnce transaction piece r × length piece ≤ 4000001) }
+    buffer: &'a mut [u8; 4000001],
+) -> Option<&'a [u8]>
+    ensures { IfSome result (λ piece. length piece.now ≤ 4000001) }
 {
-    let mut buffer = bytes();
-    match take(rt, usage, help, &mut buffer)? {
-        Taken::Whole(n) => Some(transaction(&buffer[..n])),
-        Taken::Longer => Some(transaction(&buffer)),
+    match take(rt, usage, help, buffer)? {
+        Taken::Whole(n) => Some(&buffer[..n]),
+        Taken::Longer => Some(buffer),
     }
 }
 

@@ -2,10 +2,11 @@
 ghost use Rattle.std.specs.Prelude.{◌≡◌, ◌+◌, ◌*◌};
 
 use command::text;
-use std::fmt::{InlineText, Write};
 
 // How many bytes of a body are shown.
 const SHOWN: usize = 32;
+
+const DIGITS: [u8; 16] = *b"0123456789abcdef";
 
 // A u64 from its halves: the library has no From for a pair.
 fn amount(high: u32, low: u32) -> u64
@@ -21,13 +22,14 @@ fn part(s: &[u8], at: usize, length: usize) -> &[u8] {
         .unwrap_or(&[])
 }
 
-// Up to 32 bytes in hex, in the order in which they stand, and two dots where there are more.
+// Up to 32 bytes in hex, in the order in which they stand, and two dots where there are more. By digits: `{b:02x}` took fourteen times the instructions.
 fn hex(body: &[u8]) {
-    let mut line = InlineText::<64>::new();
-    for b in body.iter().take(SHOWN) {
-        let _ = write!(line, "{b:02x}");
+    let mut line = [[0u8; 2]; SHOWN];
+    let n = body.len().min(SHOWN);
+    for (pair, b) in line.iter_mut().zip(body) {
+        *pair = [DIGITS[usize::from(b / 16)], DIGITS[usize::from(b % 16)]];
     }
-    text(line.as_str().as_bytes());
+    text(line[..n].as_flattened());
     if SHOWN < body.len() {
         text(b"..");
     }

@@ -30,12 +30,21 @@ fn transaction(source: &[u8]) {
     tables(source, &mut inputs, &mut outputs, &mut items);
 }
 
+// What `command::with_input` reads into. Made apart, so that its bytes are not looked at where it is lent.
+fn bytes() -> [u8; 4000001] {
+    [0u8; 4000001]
+}
+
 // The program's own words; the step between is `command::with_input`, which `write_back` has too.
 fn main(rt: HostRuntime) {
-    command::with_input(
+    let mut buffer = bytes();
+    let input = command::with_input(
         &rt,
         b"usage: show [FILE]\n",
         b"Shows an Elements transaction to a person: whether it is accepted, or the refusal's number, place and words; where it is accepted, the head\nnumbers and every field of every input, output and item, each with its place. Bytes are shown in hex in wire order, as they stand in the\ntransaction: explorers show txids and asset ids reversed. FILE holds the bytes themselves, not hex. Without FILE, or with -, standard input is\nread. Room: 1024 inputs, 1024 outputs, 8192 items.\n",
-        transaction,
+        &mut buffer,
     );
+    if let Some(source) = input {
+        transaction(source);
+    }
 }

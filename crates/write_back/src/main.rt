@@ -101,12 +101,21 @@ fn transaction(source: &[u8]) {
     print(outcome);
 }
 
+// What `command::with_input` reads into. Made apart, so that its bytes are not looked at where it is lent.
+fn bytes() -> [u8; 4000001] {
+    [0u8; 4000001]
+}
+
 // The program's own words; the step between is `command::with_input`, which `show` has too.
 fn main(rt: HostRuntime) {
-    command::with_input(
+    let mut buffer = bytes();
+    let input = command::with_input(
         &rt,
         b"usage: write_back [FILE]\n",
         b"Reads an Elements transaction, and holds what writing it again gives beside its bytes, one by one. Says 'same: N bytes', or the refusal's number\nand place. FILE holds the bytes themselves, not hex. Without FILE, or with -, standard input is read. Room: 512 inputs, 512 outputs, 1024 items.\n",
-        transaction,
+        &mut buffer,
     );
+    if let Some(source) = input {
+        transaction(source);
+    }
 }

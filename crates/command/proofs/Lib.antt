@@ -1,0 +1,2 @@
+-- Laws of what `command` promises.
+pub mod Counting
