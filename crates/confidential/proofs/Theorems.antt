@@ -1,7 +1,7 @@
 -- Any two results that a promise allows are equal. `Post` is the promise itself, as the check reads it off the function's clauses; it
 -- speaks of the lifetimes, the arguments, the result, and the arguments at exit, and here of the kind of field: of any, and of each of the three.
 use Rattle.std.specs.Prelude.{◌≡◌, ℕ, Option, None, Some, refl}
-use Rattle.std.proofs.Common.{zero, suc, sym, ◌∙◌, ap}
+use Rattle.std.proofs.Common.{zero, suc, sym, subst, ◌∙◌, ap, ◌↔◌}
 use borrow.Author.Tests.{ne_eqb}
 use Rattle.confidential.specs.Width.{value_width, asset_width, nonce_width, listed}
 use Rattle.confidential.specs.contracts.value.Value as value
@@ -45,3 +45,14 @@ asset_width_or_0 laws = width_or_0 asset.the_row laws asset_impl.ghosts
 
 pub nonce_width_or_0 : (laws : _) (dict : _) (κ : _) (args : _) (r : Option ℕ) (exit : _) → width.Post nonce.the_row laws nonce_impl.ghosts dict κ args r exit → or_0 r ≡ nonce_width args.0
 nonce_width_or_0 laws = width_or_0 nonce.the_row laws nonce_impl.ghosts
+
+-- None is told exactly where the prefix is not listed: there the layout's width is 0.
+shown : (w : ℕ) → listed (suc w) ≡ Some (suc w)
+shown w = simp (ne_eqb (suc w) 0 (λ e. cc))
+
+listed_none : (w : ℕ) → (listed w ≡ None) ↔ (w ≡ 0)
+listed_none zero = ((λ e. refl), (λ e. refl))
+listed_none (suc w) = ((λ e. (let s = shown w in cc)), (λ e. cc))
+
+pub none_unlisted : (K : _) (laws : _) (ghosts : _) (dict : _) (κ : _) (args : _) (r : Option ℕ) (exit : _) → width.Post K laws ghosts dict κ args r exit → (r ≡ None) ↔ (ghosts.width args.0 ≡ 0)
+none_unlisted K laws ghosts dict κ args r exit p = subst (λ (x : Option ℕ). (x ≡ None) ↔ (ghosts.width args.0 ≡ 0)) (sym p) (listed_none (ghosts.width args.0))
