@@ -12,7 +12,7 @@ use lib.ListN.{length, take, drop, get_or, drop_of_length-le}
 use lib.Seq.{drop-cons}
 use borrow.Author.Tests.{leb-true, le-leb, lt-leb, eqb-true, eq-eqb, ne_eqb}
 use Rattle.std.proofs.Common.{Some, None}
-use Rattle.std.specs.List.{list_all, position_from, position_or_len}
+use Rattle.std.specs.List.{fold, list_all, position_from, position_or_len}
 use Rattle.std.proofs.lemmas.Iterator.Adapters.{position_from-zero}
 use Rattle.layout.proofs.Reading.{by_cases}
 use Rattle.layout.specs.Transaction.{Head}
@@ -24,6 +24,16 @@ use Rattle.encoders.specs.declared.table.Transaction.{Transaction}
 use Rattle.encoders.specs.Needs.{Counted, record_faults, broken}
 
 -- ---- one record
+
+folded_from : (p : ℕ → Bool) (a : Bool) (ns : List ℕ) → fold (λ b n. b && p n) a ns ≡ (a && list_all p ns)
+folded_from p true [] = refl
+folded_from p false [] = refl
+folded_from p true (n ∷ ns) = folded_from p (p n) ns
+folded_from p false (n ∷ ns) = folded_from p false ns
+
+-- a chain that looks at every number
+pub all_folded : (ns : List ℕ) → fold (λ b n. b && eqb n 0) true ns ≡ list_all (λ n. eqb n 0) ns
+all_folded ns = folded_from (λ n. eqb n 0) true ns
 
 pub width_small : (prefix : ℕ) → value_width prefix ≤ 33
 width_small prefix = by_cases (eqb prefix 0) (λ e. rw e (omega arith)) (λ e. rw e (by_cases (eqb prefix 1) (λ e'. rw e' (omega arith)) (λ e'. rw e' (omega arith))))

@@ -11,12 +11,29 @@ use Rattle.layout.specs.Writing as writing
 use Rattle.layout.proofs.Judging.{also_split}
 use Rattle.layout.proofs.RoundTrips.{length_is, refused_alike, passes_of}
 use lib.Dec.{leb}
+use borrow.Author.Tests.{leb-true}
+use Rattle.encoders.proofs.Judging.{unless_passes}
 use Rattle.encoders.specs.Sinks.{handed}
 use Rattle.encoders.specs.Puts.{Room}
 
 -- an answer beside an output
 abbrev pub leaves : writing.Verdict → List ℕ → writing.Written
 leaves v out = record { answer = v; output = out }
+
+-- what the length says, where it is answered
+pub record Sound (h : Head) (t : Tables) (source : List ℕ) (n : ℕ) : Type 0 where
+  pub judged : table_faults h t (length source) ≡ passes
+  pub faults : faults h t source ≡ passes
+  pub length : n ≡ length (written_bytes h t source)
+  pub within : n ≤ limit
+
+pub done_sound : (h : Head) (t : Tables) (source : List ℕ) {n : ℕ} → wrote n ≡ written_length h t source → Sound h t source n
+unfolding written_length faults
+done_sound h t source {n} e =
+    let m = length (written_bytes h t source) in
+    let p = passes_of (faults h t source) m n (sym e) in
+    let split = also_split (table_faults h t (length source)) (unless (leb m limit) 2 0) p.0 in
+    record { judged = split.0; faults = p.0; length = sym p.1; within = omega (arith, p.1, leb-true m limit (unless_passes (leb m limit) 2 0 split.1)) }
 
 module _ (h : Head) (t : Tables) (source : List ℕ) where
   pub write_judged : {n : ℕ} → wrote n ≡ written_length h t source → table_faults h t (length source) ≡ passes

@@ -38,11 +38,11 @@ pub(crate) fn value_width(prefix: u32) -> usize
     }
 }
 
-// A field that is not there has 0.
+// A field that is not there has 0. Every number is looked at: `all`, which stops at the first that isn't 0, isn't unrolled.
 pub(crate) fn zeros(numbers: &[u32]) -> bool
     ensures { result ≡ list_all (λ n. eqb n 0) numbers.now }
 {
-    numbers.iter().all(|n| *n == 0)
+    numbers.iter().fold(true, |all, n| all & (*n == 0))
 }
 
 // In an issuance, keys stand after the amount's bytes.

@@ -1,5 +1,7 @@
 // Pass 2: what pass 1 has judged to pass is written, byte after byte, into a sink.
 // Source and sink are two arguments, no struct: it would lend the sink inside, and each promise would speak of that field at both ends.
+// All of it is inlined into `write` and `write_to`. `write` makes its sink, so the place in the output stays in a register: by calls, short bodies
+// took twice the time.
 ghost use Rattle.std.specs.Prelude.{◌≡◌, ◌+◌, ◌≤◌, length, take, drop, map};
 ghost use Rattle.layout.specs.Contents.{Every, compact_bytes, body_bytes, list_bytes, value_bytes, token_bytes, issuance_bytes, input_witness_bytes, output_witness_bytes};
 ghost use Rattle.layout.specs.Writing.{written_length, written_bytes, body, value_of, token_of, item_of, input_witness_of, output_witness_of};
@@ -15,6 +17,7 @@ use decoders::Head;
 use encode::Refusal;
 
 // The shortest form; no number of a table is above 4294967295.
+#[inline(always)]
 fn put_compact<S: Sink>(n: u32, sink: &mut S)
     ensures { Took S.step (compact_bytes n) sink.old sink.new }
 {
@@ -31,6 +34,7 @@ fn put_compact<S: Sink>(n: u32, sink: &mut S)
     sink.part(&n.to_le_bytes());
 }
 
+#[inline(always)]
 fn put_part<S: Sink>(source: &[u8], at: usize, n: usize, sink: &mut S)
     requires { at + n ≤ length source.now }
     ensures { Took S.step (body source.now at n) sink.old sink.new }
@@ -39,6 +43,7 @@ fn put_part<S: Sink>(source: &[u8], at: usize, n: usize, sink: &mut S)
     sink.part(&source[at..end]);
 }
 
+#[inline(always)]
 fn put_body<S: Sink>(source: &[u8], at: u32, n: u32, sink: &mut S)
     requires { at + n ≤ length source.now }
     ensures { Took S.step (body_bytes (body source.now at n)) sink.old sink.new }
@@ -47,6 +52,7 @@ fn put_body<S: Sink>(source: &[u8], at: u32, n: u32, sink: &mut S)
     put_part(source, at as usize, n as usize, sink);
 }
 
+#[inline(always)]
 fn put_value<S: Sink>(source: &[u8], at: usize, prefix: u32, high: u32, low: u32, sink: &mut S)
     requires { Prefixed 2 (length source.now) at prefix }
     ensures { Took S.step (value_bytes (value_of source.now at prefix high low)) sink.old sink.new }
@@ -63,6 +69,7 @@ fn put_value<S: Sink>(source: &[u8], at: usize, prefix: u32, high: u32, low: u32
     put_part(source, at + 1, 32, sink);
 }
 
+#[inline(always)]
 fn put_token<S: Sink>(source: &[u8], at: u32, prefix: u32, sink: &mut S)
     requires { Prefixed 1 (length source.now) at prefix }
     ensures { Took S.step (token_bytes (token_of source.now at prefix)) sink.old sink.new }
@@ -75,6 +82,7 @@ fn put_token<S: Sink>(source: &[u8], at: u32, prefix: u32, sink: &mut S)
 }
 
 // Only with the issuance flag.
+#[inline(always)]
 fn put_issuance<S: Sink>(source: &[u8], r: &InputRow, sink: &mut S)
     requires { IssuanceReady (length source.now) r.now }
     ensures { Took S.step (issuance_bytes (issuance_in source.now r.now)) sink.old sink.new }
@@ -90,6 +98,7 @@ fn put_issuance<S: Sink>(source: &[u8], r: &InputRow, sink: &mut S)
     put_value(source, behind, r[10], r[11], r[12], sink);
 }
 
+#[inline(always)]
 fn put_input<S: Sink>(source: &[u8], r: &InputRow, sink: &mut S)
     requires { InputReady (length source.now) r.now }
     ensures { Took S.step (input_row_bytes source.now r.now) sink.old sink.new }
@@ -101,6 +110,7 @@ fn put_input<S: Sink>(source: &[u8], r: &InputRow, sink: &mut S)
     put_issuance(source, r, sink);
 }
 
+#[inline(always)]
 fn put_output<S: Sink>(source: &[u8], r: &OutputRow, sink: &mut S)
     requires { OutputReady (length source.now) r.now }
     ensures { Took S.step (output_row_bytes source.now r.now) sink.old sink.new }
@@ -111,6 +121,7 @@ fn put_output<S: Sink>(source: &[u8], r: &OutputRow, sink: &mut S)
     put_body(source, r[8], r[9], sink);
 }
 
+#[inline(always)]
 fn put_output_witness<S: Sink>(source: &[u8], r: &OutputRow, sink: &mut S)
     requires { OutputWitnessReady (length source.now) r.now }
     ensures { Took S.step (output_witness_row_bytes source.now r.now) sink.old sink.new }
@@ -120,6 +131,7 @@ fn put_output_witness<S: Sink>(source: &[u8], r: &OutputRow, sink: &mut S)
 }
 
 // The items of one stack stand from the first on.
+#[inline(always)]
 fn put_stack<S: Sink>(source: &[u8], items: &[ItemRow], first: usize, n: u32, sink: &mut S)
     requires ready { Every (ItemReady (length source.now)) items.now }
     requires held { first + n ≤ length items.now }
@@ -132,6 +144,7 @@ fn put_stack<S: Sink>(source: &[u8], items: &[ItemRow], first: usize, n: u32, si
     }
 }
 
+#[inline(always)]
 fn put_input_witness<S: Sink>(source: &[u8], items: &[ItemRow], r: &InputRow, sink: &mut S)
     requires items_ready { Every (ItemReady (length source.now)) items.now }
     requires ready { InputWitnessReady (length source.now) (length items.now) r.now }
@@ -146,6 +159,7 @@ fn put_input_witness<S: Sink>(source: &[u8], items: &[ItemRow], r: &InputRow, si
 
 impl Transaction<'_> {
     // Each count stands before its records; witnesses are last.
+    #[inline(always)]
     pub(crate) fn put<S: Sink>(&self, source: &[u8], sink: &mut S)
         requires { TransactionReady (length source.now) self.now }
         ensures { Took S.step (transaction_bytes source.now self.now) sink.old sink.new }

@@ -4,6 +4,7 @@ ghost use Rattle.encoders.specs.Stores.{stored};
 
 use crate::sink::Sink;
 
+#[inline(always)]
 fn copy_array<const N: usize>(bytes: &[u8; N], out: &mut [u8])
     requires { length out.old ≡ N }
     ensures { out.new ≡ bytes.now }
@@ -14,6 +15,7 @@ fn copy_array<const N: usize>(bytes: &[u8; N], out: &mut [u8])
 }
 
 // By index, as `copy_long`: behind `iter_mut` or `as_chunks_mut` a proof knows a slice's length, not its elements.
+#[inline(always)]
 fn copy_bytes(bytes: &[u8], out: &mut [u8])
     requires { length bytes.now ≡ length out.old }
     ensures { out.new ≡ bytes.now }
@@ -23,7 +25,8 @@ fn copy_bytes(bytes: &[u8], out: &mut [u8])
     }
 }
 
-// Blocks of one known length, which the compiler unrolls, and then the rest.
+// Blocks of one known length, which the compiler unrolls, and then the rest. A call, since the blocks would stand in each place.
+#[inline(never)]
 fn copy_long(bytes: &[u8], out: &mut [u8])
     requires { length bytes.now ≡ length out.old }
     ensures { out.new ≡ bytes.now }
@@ -37,19 +40,24 @@ fn copy_long(bytes: &[u8], out: &mut [u8])
     copy_bytes(&bytes[at..], &mut out[at..]);
 }
 
-// A number of 4 bytes and a hash go as arrays, which are a move or two; the rest in blocks, then byte after byte. Each of the three asks for
-// equal lengths: no type holds two slices of one length.
+// A hash goes as an array, which is two moves; what is shorter than a block in a loop that stands where it is called; the rest by a call. Each of
+// them asks for equal lengths: no type holds two slices of one length.
 // `copy_from_slice` compiles to C's `memmove`: the library is to need nothing but `memcpy` and `memset` (README).
+#[inline(always)]
 fn copy(bytes: &[u8], out: &mut [u8])
     requires { length bytes.now ≡ length out.old }
     ensures { out.new ≡ bytes.now }
 {
-    if let Some(number) = bytes.as_array::<4>() {
-        copy_array(number, out);
+    if bytes.len() < 32 {
+        copy_bytes(bytes, out);
         return;
     }
     if let Some(hash) = bytes.as_array::<32>() {
         copy_array(hash, out);
+        return;
+    }
+    if bytes.len() < 512 {
+        copy_bytes(bytes, out);
         return;
     }
     copy_long(bytes, out);
@@ -66,6 +74,7 @@ impl Sink for Store<'_> {
     ghost step = { stored };
 
     // Behind the output's end nothing is stored: a sink asks nothing of its caller. `write` has seen the room before (else 14), so nothing is dropped.
+    #[inline(always)]
     fn byte(&mut self, b: u8) {
         if self.at < self.out.len() {
             self.out[self.at] = b;
@@ -73,16 +82,23 @@ impl Sink for Store<'_> {
         }
     }
 
-    // In one piece, where there is room for all of it.
+    // In one piece; where there is no room for all of it, as much of it as fits. An empty one first: many bodies are.
+    #[inline(always)]
     fn part(&mut self, bytes: &[u8]) {
-        if self.at <= self.out.len() && bytes.len() <= self.out.len() - self.at {
+        if bytes.is_empty() {
+            return;
+        }
+        if self.out.len() <= self.at {
+            return;
+        }
+        let room = self.out.len() - self.at;
+        if bytes.len() <= room {
             let end = self.at + bytes.len();
             copy(bytes, &mut self.out[self.at..end]);
             self.at = end;
             return;
         }
-        for b in bytes {
-            self.byte(*b);
-        }
+        copy_long(&bytes[..room], &mut self.out[self.at..]);
+        self.at += room;
     }
 }

@@ -58,7 +58,8 @@ fn left(n: Option<usize>, out: &[u8], wanted: &[u8]) {
 
 // How many bytes are this one.
 fn count(s: &[u8], b: u8) -> usize {
-    s.iter().filter(|x| **x == b).count()
+    s.iter()
+        .fold(0usize, |n, x| n.wrapping_add(usize::from(*x == b)))
 }
 
 // The output after a writing from a source that has only s: how many bytes are s, how many still have their mark, and the five bytes at 42.
