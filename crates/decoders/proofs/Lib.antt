@@ -1,6 +1,7 @@
 pub mod Advance
 pub mod Answers
 pub mod Branches
+pub mod Chain
 pub mod Closing
 pub mod Entries
 pub mod Feeds
