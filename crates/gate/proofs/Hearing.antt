@@ -2,11 +2,10 @@
 use Prim.Native.Nat.{ℕ, zero, suc, ◌+◌, ◌-◌, ◌<◌, ◌≤◌}
 use mathlib.Core.Path.{◌≡◌, refl, sym, ◌∙◌, ap, ap₂, subst}
 use mathlib.Core.Bool.{Bool, true, false, cond}
-use mathlib.Core.List.{List, [], ◌∷◌, ◌++◌, append_assoc, append-nil}
+use mathlib.Core.List.{List, [], ◌∷◌, ◌++◌}
 use native.Mathlib.Nat.{zero-add}
 use native.Mathlib.Omega.{arith}
-use lib.Dec.{ltb}
-use lib.ListN.{length, get_or, take, length-append}
+use lib.ListN.{length, take, length-append}
 use borrow.Author.Tests.{lt-ltb, le-ltb}
 use Rattle.layout.specs.Number.{Bytes}
 use Rattle.layout.specs.Layout as layout
@@ -16,13 +15,13 @@ use Rattle.layout.specs.Outcome.{Tables, partial, at_once, strict, reading_of}
 use Rattle.layout.proofs.Reading as of_reading
 use Rattle.layout.proofs.Theorems as of_layout
 use Rattle.decoders.specs.declared.Fed.{Fed}
-use Rattle.decoders.specs.Machine.{State, Machine, machine, fed, fresh}
-use Rattle.decoders.specs.Feeding.{sizes_of, cleared, layout_sizes, begun, told, Out, out, out_of, pushed, ended}
+use Rattle.decoders.specs.Machine.{State, Machine, machine, fresh}
+use Rattle.decoders.specs.Feeding.{cleared, layout_sizes, begun, told, Out, out_of, pushed, ended}
 use Rattle.decoders.proofs.Feeds.{Lengths}
 use Rattle.decoders.proofs.Fresh.{after, reads, cleared_lengths, zero_lengths}
-use Rattle.decoders.proofs.Theorems.{feeding, join, started, feeding_held, call_reads, finish_reads}
+use Rattle.decoders.proofs.Theorems.{feeding, join, feeding_held, call_reads, finish_reads}
 use Rattle.gate.specs.declared.Line.{Line}
-use Rattle.gate.specs.Verdict.{line, line_of, verdict_of, is_refused, EndedAt, SettledAt}
+use Rattle.gate.specs.Verdict.{line_of, verdict_of, is_refused, EndedAt, SettledAt}
 
 -- the bytes read so far were all taken, and state and tables are those of a reading of them
 pub record Heard (t : Tables) (s : State) (u : Tables) : Type 0 where

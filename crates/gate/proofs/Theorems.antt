@@ -1,9 +1,8 @@
 -- The loop as a function of the pieces that its reads bring, and what it prints: the strict form's line of the joined bytes.
-use Prim.Native.Nat.{ℕ, ◌<◌, ◌≤◌}
-use mathlib.Core.Path.{◌≡◌, refl, sym, ◌∙◌, ap, subst}
-use mathlib.Core.Bool.{Bool, true, false, cond}
+use Prim.Native.Nat.{ℕ, ◌≤◌}
+use mathlib.Core.Path.{◌≡◌, refl, sym, ◌∙◌, ap}
+use mathlib.Core.Bool.{true, false, cond}
 use mathlib.Core.List.{List, [], ◌∷◌, ◌++◌, append_assoc, append-nil}
-use native.Mathlib.Omega.{arith}
 use lib.Dec.{ltb}
 use lib.ListN.{length}
 use borrow.Author.Tests.{ltb-true, ltb-false}
@@ -11,7 +10,7 @@ use Rattle.layout.specs.Number.{Bytes}
 use Rattle.layout.specs.Outcome as outcome
 use Rattle.layout.specs.Outcome.{Tables, strict}
 use Rattle.layout.proofs.Reading.{by_cases}
-use Rattle.decoders.specs.Machine.{State, machine}
+use Rattle.decoders.specs.Machine.{State}
 use Rattle.decoders.specs.Feeding.{layout_sizes, begun, pushed, ended}
 use Rattle.decoders.proofs.Theorems.{join}
 use Rattle.gate.specs.declared.Line.{Line}

@@ -28,7 +28,7 @@ pub struct Line {
 
 // What came of an input that could be read, and what is told of it. Settled: before its end, and whatever follows. Neither is an error: both
 // ends tell a line, and `Judged` says of each what of the input it rests on.
-#[derive(Drop)]
+#[derive(Clone, Copy, Drop)]
 pub enum Seen<T> {
     Ended(T),
     Settled(T),
@@ -144,12 +144,8 @@ fn is_given(rt: &HostRuntime) -> bool {
     !matches!(rt.arg(1, &mut word), Err(FillError::NotPresent))
 }
 
-// 65,536 bytes, and tables of 64 input, 64 output and 256 item records.
-fn main(rt: HostRuntime) {
-    if is_given(&rt) {
-        io::write_all(STDERR_FILENO, b"usage: gate < TRANSACTION\n");
-        return;
-    }
+// 65,536 bytes, and tables of 64 input, 64 output and 256 item records. Apart from `main`: there the buffer was zeroed twice.
+fn hear(rt: &HostRuntime) {
     let mut buffer: [u8; 65536] = [0; 65536];
     let mut inputs: [u32; 1280] = [0; 1280];
     let mut outputs: [u32; 896] = [0; 896];
@@ -163,10 +159,18 @@ fn main(rt: HostRuntime) {
     );
     // two arms: where one takes both by `|`, what `print` requires can be proved by names of the check's own alone
     match said {
-        Ok(Seen::Ended(text)) => print(&rt, text.as_slice()),
-        Ok(Seen::Settled(text)) => print(&rt, text.as_slice()),
+        Ok(Seen::Ended(text)) => print(rt, text.as_slice()),
+        Ok(Seen::Settled(text)) => print(rt, text.as_slice()),
         Err(_) => {
             io::write_all(STDERR_FILENO, b"gate: standard input could not be read\n");
         }
     }
+}
+
+fn main(rt: HostRuntime) {
+    if is_given(&rt) {
+        io::write_all(STDERR_FILENO, b"usage: gate < TRANSACTION\n");
+        return;
+    }
+    hear(&rt);
 }
